@@ -1,0 +1,5 @@
+pub mod Checks
+pub mod Codes
+pub mod Fields
+pub mod Groups
+pub mod Refusals

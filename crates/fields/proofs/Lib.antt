@@ -1,0 +1,2 @@
+pub mod BinaryProducts
+pub mod SmallFields

@@ -1,0 +1,4 @@
+pub mod DoubleRings
+pub mod Grids
+pub mod Remainders
+pub mod Rings
