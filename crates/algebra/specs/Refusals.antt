@@ -1,10 +1,13 @@
 -- The refusals, and what each tells.
 --     refusals             each refusal with its number, in their order
 --     Numbered x n         n is the number of the refusal x
+--     parts                each part with its name
+--     Named p name         name is the name of the part p
 --     order-refused p ..   the fault of each refusal, with its part and its place
 use mathlib.Core.Path.{_≡_}
 use mathlib.Core.List.{List, [], _∷_}
 use Prim.Native.Nat.{ℕ, _<_}
+use lib.Chars.{codes}
 use lib.ListN.{length, getD}
 use Rattle.algebra.specs.declared.fault.Refusal.{Refusal}
 use Rattle.algebra.specs.declared.fault.Refusal.the-variants.{Order, TableSize, Entry, Identity, Inverse, Association, NoCode, Length, Range, Radius, Book, NotIdempotent, NotCentral, TooClose, OutOfReach}
@@ -19,6 +22,12 @@ refusals =
 
 abbrev pub Numbered : Refusal → ℕ → Type 0
 Numbered x n = (i : ℕ) × (i < length refusals) × (getD refusals i (x, 0) ≡ (x, n))
+
+abbrev pub parts : List (Part × List ℕ)
+parts = (Symbols, codes "symbols") ∷ (Dots, codes "dots") ∷ (Reader, codes "reader") ∷ []
+
+abbrev pub Named : Part → List ℕ → Type 0
+Named p name = (i : ℕ) × (i < length parts) × (getD parts i (p, []) ≡ (p, name))
 
 abbrev pub fault : Refusal → Part → ℕ → Fault
 fault r p i = record { refusal = r; part = p; place = i }

@@ -1,6 +1,6 @@
 // What a refused call tells: which rule was broken, which part found it, and where.
 ghost use mathlib.Core.Path.{_≡_};
-ghost use Rattle.algebra.specs.Refusals.{Numbered, dot-refused, length-refused, order-refused, symbol-refused};
+ghost use Rattle.algebra.specs.Refusals.{Named, Numbered, dot-refused, length-refused, order-refused, symbol-refused};
 
 // The rules that a call can be refused by, in their order.
 #[derive(Clone, Copy, PartialEq, Eq, Debug)]
@@ -36,6 +36,18 @@ pub enum Part {
     Symbols,
     Dots,
     Reader,
+}
+
+impl Part {
+    pub fn name(self) -> &'static str
+        ensures { λ r. ⌜ Named self (now r) ⌝ }
+    {
+        match self {
+            Part::Symbols => "symbols",
+            Part::Dots => "dots",
+            Part::Reader => "reader",
+        }
+    }
 }
 
 #[derive(Clone, Copy, PartialEq, Eq, Debug)]

@@ -2,7 +2,6 @@
 use crate::picture::Picture;
 use algebra::Fault;
 use algebra::Group;
-use algebra::Part;
 use std::alloc::Global;
 use std::error::AnyError;
 use tables::TableGroup;
@@ -190,11 +189,7 @@ fn print_records(
 
 fn print_fault(rt: &LibcRuntime, what: &str, fault: Fault) -> Result<(), AnyError> {
     let number = fault.refusal.number();
-    let part = match fault.part {
-        Part::Symbols => "symbols",
-        Part::Dots => "dots",
-        Part::Reader => "reader",
-    };
+    let part = fault.part.name();
     let place = fault.place;
     println!(
         rt,

@@ -14,33 +14,11 @@ use Rattle.algebra.specs.Groups.{Dots, GroupLaws}
 use Rattle.words.specs.Words.{at, total, nought, plus, less, scaled, turned, weight, Lawful}
 use Rattle.words.proofs.Fields.{zero-below, product-zero, one-product}
 use Rattle.words.proofs.Groups.{product-back, product-forth}
+use Rattle.words.proofs.Counting.{mark, mark-other, mark-zero, numbers, numbers-add, weight-is-total}
 use Rattle.words.proofs.Tabulate.{length-tabulate, tabulate-is}
 use Rattle.words.proofs.Totals.{Adds, total-cong, total-zero, total-renumbered}
 use Rattle.words.proofs.Linear.{back, at-nought, at-plus, at-less, at-scaled, at-turned, nought-lawful, plus-lawful, less-lawful, scaled-lawful}
 use Rattle.words.proofs.Turning.{length-turned}
-
--- the sum of numbers, for totals of numbers
-abbrev numbers : Symbols
-numbers = record { order = 0; sum = _+_; opposite = λ a. 0; product = _*_; inverse = λ a. None }
-
-numbers-add : Adds numbers (λ a. Unit {0})
-numbers-add = record {
-  zero-code = tt;
-  sum-code = λ a b _ _. tt;
-  associative = λ a b c _ _ _. omega arith;
-  commutative = λ a b _ _. omega arith;
-  zero-neutral = λ a _. omega arith;
-}
-
--- 1 for a nonzero symbol
-abbrev mark : ℕ → ℕ
-mark x = cond (eqb x 0) 0 1
-
-mark-zero : (x : ℕ) → x ≡ 0 → mark x ≡ 0
-mark-zero x e = cond-true (eqb x 0) 0 1 (eq-eqb x 0 e)
-
-mark-other : (x : ℕ) → x ≢ 0 → mark x ≡ 1
-mark-other x ne = cond-false (eqb x 0) 0 1 (ne-eqb x 0 ne)
 
 mark-below : (x a : ℕ) → (a ≡ 0 → x ≡ 0) → mark x ≤ a
 mark-below x a z = elim (cases-eq a 0) [
@@ -54,11 +32,6 @@ mark-below x a z = elim (cases-eq a 0) [
 zero-from-mark : (x : ℕ) → mark x ≡ 0 → x ≡ 0
 zero-from-mark x e = elim (cases-eq x 0) [ inl z ↦ z | inr ne ↦ absurd (omega (arith, mark-other x ne)) ]
 
-total-front : (f : ℕ → ℕ) (n : ℕ) → total numbers f (suc n) ≡ f 0 + total numbers (λ d. f (suc d)) n
-unfolding total
-total-front f zero = omega arith
-total-front f (suc n) = ap (λ x. x + f (suc n)) (total-front f n) ∙ omega arith
-
 total-le : (f a b : ℕ → ℕ) (n : ℕ) → ((d : ℕ) → d < n → f d ≤ a d + b d) → total numbers f n ≤ total numbers a n + total numbers b n
 unfolding total
 total-le f a b zero below = omega arith
@@ -71,14 +44,6 @@ terms-zero f (suc n) e d h = elim (cases-eq d n) [
   | inl s ↦ ap f s ∙ omega arith
   | inr ne ↦ terms-zero f n (omega arith) d (omega arith)
 ]
-
-weight-total : (w : List ℕ) → weight w ≡ total numbers (λ d. mark (at w d)) (length w)
-unfolding weight total
-weight-total [] = refl
-weight-total (x ∷ w) = ap (λ y. mark x + y) (weight-total w) ∙ sym (total-front (λ d. mark (at (x ∷ w) d)) (length w))
-
-weight-is-total : (n : ℕ) (w : List ℕ) → length w ≡ n → weight w ≡ total numbers (λ d. mark (at w d)) n
-weight-is-total n w l = weight-total w ∙ ap (total numbers (λ d. mark (at w d))) l
 
 -- a word that is 0 where u and v are
 pub weight-below : (n : ℕ) (u v w : List ℕ) → length u ≡ n → length v ≡ n → length w ≡ n → ((d : ℕ) → d < n → at u d ≡ 0 → at v d ≡ 0 → at w d ≡ 0) → weight w ≤ weight u + weight v
