@@ -1,6 +1,6 @@
 -- Words as the program holds them: a loop that writes one symbol for each dot, and what it leaves.
 --     Filled f i out        the 64 symbols out are f d at each dot d below i, and 0 from i on
-use mathlib.Core.Path.{_≡_, refl, sym, ap₂, _∙_}
+use mathlib.Core.Path.{_≡_, refl, sym, ap, ap₂, _∙_}
 use mathlib.Core.Bool.{cond}
 use mathlib.Core.List.{List, _∷_}
 use mathlib.Core.Logic.{⊎-elim}
@@ -12,9 +12,9 @@ use Rattle.std.proofs.shelf.Lists.{getD-take, length-take-le}
 use Rattle.std.proofs.shelf.Tests.{cases-lt, cond-false, ne-eqb}
 use Rattle.algebra.specs.Checks.{FirstWithout}
 use Rattle.words.specs.Stored.{Stores, word}
-use Rattle.words.specs.Words.{at, one, tabulate}
+use Rattle.words.specs.Words.{at, nought, one, tabulate}
 use Rattle.words.specs.declared.word.Word.{Word}
-use Rattle.words.proofs.Tabulate.{at-tabulate, tabulate-ext, tabulate-is}
+use Rattle.words.proofs.Tabulate.{at-tabulate, at-tabulate-past, tabulate-ext, tabulate-is}
 
 pub record Filled (f : ℕ → ℕ) (i : ℕ) (out : List ℕ) : Type 0 where
   pub size : length out ≡ 64
@@ -35,8 +35,30 @@ filled-stores f h n i out e same all = record {
   rest = λ d l. all .rest d (omega arith);
 }
 
+pub zero-stores : (n : ℕ) (z : Word) → z .symbols ≡ nought 64 → Stores n z (nought n)
+unfolding nought
+zero-stores n z e = record {
+  value = tabulate-ext n _ _ (λ d l. zeros d);
+  rest = λ d l. zeros d;
+}
+  where
+    zeros : (d : ℕ) → at (z .symbols) d ≡ 0
+    zeros d = ap (λ x. at x d) e ∙ ⊎-elim (at-tabulate 64 (λ _. 0) d) (at-tabulate-past 64 (λ _. 0) d) (cases-lt d 64)
+
 pub at-word : (n : ℕ) (w : Word) (d : ℕ) → d < n → at (w .symbols) d ≡ at (word n w) d
 at-word n w d l = sym (at-tabulate n (at (w .symbols)) d l)
+
+pub stored-same : (n : ℕ) (r s : Word) (w : List ℕ) → Stores n r w → Stores n s w → word 64 r ≡ word 64 s
+stored-same n r s w p q = tabulate-ext 64 (at (r .symbols)) (at (s .symbols)) (λ d _. same d)
+  where
+    same : (d : ℕ) → at (r .symbols) d ≡ at (s .symbols) d
+    same d = ⊎-elim
+        (λ lt. at-word n r d lt ∙ ap (λ x. at x d) (p .value ∙ sym (q .value)) ∙ sym (at-word n s d lt))
+        (λ le. p .rest d le ∙ sym (q .rest d le)) (cases-lt d n)
+
+pub same-front : (n : ℕ) (r s : Word) → n ≤ 64 → word 64 r ≡ word 64 s → word n r ≡ word n s
+same-front n r s most e =
+    tabulate-ext n (at (r .symbols)) (at (s .symbols)) (λ d l. at-word 64 r d (omega arith) ∙ ap (λ x. at x d) e ∙ sym (at-word 64 s d (omega arith)))
 
 -- two words, symbol by symbol
 pub paired-stores : (F : ℕ → ℕ → ℕ) (n i : ℕ) (u v : Word) (out : List ℕ) → i ≡ n → Filled (λ d. F (at (u .symbols) d) (at (v .symbols) d)) i out → Stores n (record { symbols = out }) (tabulate n (λ d. F (at (word n u) d) (at (word n v) d)))

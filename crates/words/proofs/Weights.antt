@@ -94,6 +94,10 @@ module _ {k : Symbols} (laws : SumProductLaws k) (n : ℕ) where
       ∙ ap (λ x. k .product x (at w d)) (laws .product-commutative b a lb la ∙ e)
       ∙ one-product laws (at w d) (lw .1 d h))))
 
+  pub scaled-one : (w : List ℕ) → Lawful k n w → scaled k n 1 w ≡ w
+  unfolding scaled
+  scaled-one w lw = sym (tabulate-is n _ w (lw .0) (λ d h. sym (one-product laws (at w d) (lw .1 d h))))
+
 pub weight-scaled : {k : Symbols} → FieldLaws k → (n a : ℕ) (w : List ℕ) → a < k .order → a ≢ 0 → Lawful k n w → weight (scaled k n a w) ≡ weight w
 weight-scaled {k} field n a w la ne lw =
     let (b, _, lb, e) = field .inverse-cancels a la ne in

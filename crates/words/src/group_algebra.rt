@@ -137,6 +137,13 @@ impl<F: Field, G: Group> GroupAlgebra<F, G> {
         Word { symbols: out }
     }
 
+    // w turned by the inverse of j.
+    pub fn turned_back(&self, j: usize, w: &Word) -> Word
+        ensures { λ r. ⌜ (let g = G·Group .dots (now (self .entry) .group) in let n = g .order in Stores n r (turned g (g .inverse j) (word n (now (w .entry))))) ⌝ }
+    {
+        self.turned(self.group.inverse(j), w)
+    }
+
     // One less e.
     fn complement(&self, e: &Word) -> Word
         ensures { λ r. ⌜ (let k = F·Field .symbols (now (self .entry) .field) in let n = G·Group .dots (now (self .entry) .group) .order in Stores n r (less k n (one n) (word n (now (e .entry))))) ⌝ }

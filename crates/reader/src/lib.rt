@@ -1,0 +1,10 @@
+// Reading and writing marks: words of a group code.
+mod basis;
+mod book;
+mod closeness;
+mod code;
+mod fits;
+mod record;
+mod search;
+
+pub use record::ReadRecord;
