@@ -2,6 +2,7 @@ pub mod AddedRows
 pub mod BasisSteps
 pub mod BookRows
 pub mod Chains
+pub mod CheckLists
 pub mod Clashes
 pub mod Distances
 pub mod Elimination
@@ -9,12 +10,18 @@ pub mod EliminationSteps
 pub mod FewSymbols
 pub mod FitRows
 pub mod FoundPatterns
+pub mod InForce
 pub mod LightWords
+pub mod Loading
+pub mod MarkWords
 pub mod MessageSymbols
 pub mod MessageWords
 pub mod PivotLists
+pub mod ReadLaws
+pub mod Refusing
 pub mod Residuals
 pub mod RowCounts
 pub mod Rows
 pub mod Searching
+pub mod SoundCalls
 pub mod TurnCounts

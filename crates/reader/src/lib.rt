@@ -4,6 +4,7 @@ mod book;
 mod closeness;
 mod code;
 mod fits;
+mod reader;
 mod record;
 mod search;
 
