@@ -33,15 +33,15 @@ listed-at p (m ∷ ns) n passed h =
     let parts = and-parts (p m) (each-listed ns p) passed in
     ⊎-elim (λ (e : eqb n m ≡ true). rw (eqb-true n m e) (parts .0)) (listed-at p ns n (parts .1)) (or-cases (eqb n m) (listed ns n) h)
 
-abbrev all : List Bool → Bool
+abbrev pub all : List Bool → Bool
 all [] = true
 all (b ∷ bs) = b && all bs
 
-abbrev AllTrue : List Bool → Type 0
+abbrev pub AllTrue : List Bool → Type 0
 AllTrue [] = Unit {0}
 AllTrue (b ∷ bs) = (b ≡ true) × AllTrue bs
 
-all-true : (bs : List Bool) → all bs ≡ true → AllTrue bs
+pub all-true : (bs : List Bool) → all bs ≡ true → AllTrue bs
 all-true [] passed = tt
 all-true (b ∷ bs) passed = let parts = and-parts b (all bs) passed in (parts .0, all-true bs (parts .1))
 

@@ -16,12 +16,14 @@ pub mod Loading
 pub mod MarkWords
 pub mod MessageSymbols
 pub mod MessageWords
+pub mod Outputs
 pub mod PivotLists
 pub mod ReadLaws
 pub mod Refusing
 pub mod Residuals
 pub mod RowCounts
 pub mod Rows
+pub mod Running
 pub mod Searching
 pub mod SoundCalls
 pub mod TurnCounts

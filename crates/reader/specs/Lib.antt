@@ -5,4 +5,5 @@ pub mod Fitting
 pub mod GroupCodes
 pub mod Histories
 pub mod Loads
+pub mod Runs
 pub mod Stored

@@ -6,6 +6,7 @@ mod code;
 mod fits;
 mod reader;
 mod record;
+mod runs;
 mod search;
 
 pub use record::ReadRecord;

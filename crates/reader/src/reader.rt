@@ -7,6 +7,7 @@ mod loads;
 mod marks;
 mod uses;
 
+#[derive(Drop)]
 pub struct Reader<F, G> {
     algebra: GroupAlgebra<F, G>,
     code: Option<Code>,
