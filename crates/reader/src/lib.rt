@@ -9,4 +9,9 @@ mod record;
 mod runs;
 mod search;
 
+pub use reader::Reader;
 pub use record::ReadRecord;
+pub use runs::Answer;
+pub use runs::Call;
+pub use runs::Reply;
+pub use runs::run;
