@@ -3,16 +3,12 @@ ghost use mathlib.Core.Path.{_≡_};
 ghost use Prim.Native.Nat.{_<_};
 ghost use Rattle.std.specs.Options.{Cases as BySome};
 ghost use Rattle.std.specs.Orderings.{When};
-ghost use lib.ListN.{length};
-ghost use Rattle.algebra.specs.Checks.{FirstWithout, Judged};
+ghost use Rattle.algebra.specs.Checks.{FirstWithout};
 ghost use Rattle.words.specs.Laws.{AlgebraLaws};
 ghost use Rattle.words.specs.Stored.{Stores, coefficient, word};
-ghost use Rattle.words.specs.Turns.{LeastTurn, alike-checks};
 ghost use Rattle.words.specs.Words.{at, less, one, plus, scaled, syndrome, times, turned, weight as nonzeros};
 use crate::count;
-use crate::likeness;
 use crate::word::Word;
-use algebra::Fault;
 use algebra::Field;
 use algebra::Group;
 
@@ -28,34 +24,6 @@ impl<F: Field, G: Group> GroupAlgebra<F, G> {
         ensures laws { λ _. ⌜ AlgebraLaws (F·Field .symbols field) (G·Group .dots group) ⌝ }
     {
         GroupAlgebra { field, group }
-    }
-
-    // The number of dots.
-    pub fn dots(&self) -> usize
-        ensures { λ r. ⌜ r ≡ G·Group .dots (now (self .entry) .group) .order ⌝ }
-    {
-        self.group.order()
-    }
-
-    // The number of symbols that a dot can have.
-    pub fn symbols(&self) -> u8
-        ensures { λ r. ⌜ r ≡ F·Field .symbols (now (self .entry) .field) .order ⌝ }
-    {
-        self.field.order()
-    }
-
-    // The inverse of a symbol, if it has one.
-    pub fn inverse(&self, a: u8) -> Option<u8>
-        ensures { λ r. ⌜ r ≡ F·Field .symbols (now (self .entry) .field) .inverse a ⌝ }
-    {
-        self.field.inverse(a)
-    }
-
-    // The least dot by which the first mark turns into the second, if there is one.
-    pub fn alike(&self, first: &[u8], second: &[u8]) -> Result<Option<usize>, Fault>
-        ensures { λ r. ⌜ (let g = G·Group .dots (now (self .entry) .group) in Judged (alike-checks (g .order) (length (now (first .entry))) (length (now (second .entry)))) r (λ j. LeastTurn g (now (first .entry)) (now (second .entry)) j)) ⌝ }
-    {
-        likeness::alike(&self.group, first, second)
     }
 
     // The word with 1 at dot 0 and 0 elsewhere.
@@ -135,13 +103,6 @@ impl<F: Field, G: Group> GroupAlgebra<F, G> {
             out[d] = w.symbol(self.group.product(back, d));
         }
         Word { symbols: out }
-    }
-
-    // w turned by the inverse of j.
-    pub fn turned_back(&self, j: usize, w: &Word) -> Word
-        ensures { λ r. ⌜ (let g = G·Group .dots (now (self .entry) .group) in let n = g .order in Stores n r (turned g (g .inverse j) (word n (now (w .entry))))) ⌝ }
-    {
-        self.turned(self.group.inverse(j), w)
     }
 
     // One less e.

@@ -1,4 +1,0 @@
-pub mod Appending
-pub mod Grammar
-pub mod LongLines
-pub mod Spelling

@@ -1,5 +1,0 @@
-pub mod Certificates
-pub mod CodeTests
-pub mod ReadTests
-pub mod Standing
-pub mod WordTests
