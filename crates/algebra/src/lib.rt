@@ -1,4 +1,6 @@
 // The interfaces of symbols and dots, and what a refused call tells.
+#![tactic(auto)]
+
 mod fault;
 mod field;
 mod group;

@@ -1,4 +1,6 @@
 // The fields that are built in.
+#![tactic(auto)]
+
 mod binary;
 mod prime;
 #[cfg(test)]

@@ -1,4 +1,6 @@
 // The groups that are made from numbers and from other groups.
+#![tactic(auto)]
+
 mod double_ring;
 mod grid;
 mod ring;

@@ -1,5 +1,7 @@
 // Lines two pictures of one mark up: each camera began at a dot of its own.
 // The script comes from standard input, a command or a line of numbers at a time.
+#![tactic(auto)]
+
 use algebra::{Fault, Group};
 use anyhow::anyhow;
 use std::alloc::{AllocError, Global};

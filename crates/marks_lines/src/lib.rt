@@ -1,4 +1,6 @@
 // The lines of the program marks: what a line of bytes asks, and the line that answers.
+#![tactic(auto)]
+
 mod digits;
 mod line;
 mod pending;

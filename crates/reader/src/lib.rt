@@ -1,4 +1,6 @@
 // Reading and writing marks: words of a group code.
+#![tactic(auto)]
+
 mod code;
 mod reader;
 mod record;

@@ -1,4 +1,6 @@
 // Runs: calls given to a reader in order, and what it replies.
+#![tactic(auto)]
+
 mod runs;
 
 pub use runs::serve::serve;

@@ -1,4 +1,6 @@
 // Specimens: worked examples of fields, groups and codes, which hold by the definitions that the other crates promise.
+#![tactic(auto)]
+
 ghost use Rattle.std.specs.Prelude.{◌≡◌, length};
 ghost use Rattle.specimens.specs.Specimens.{AllHold, specimens};
 

@@ -1,4 +1,6 @@
 // The groups that are given by tables.
+#![tactic(auto)]
+
 mod table;
 
 pub use table::TableGroup;

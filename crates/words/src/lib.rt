@@ -1,4 +1,6 @@
 // Words over a field, one symbol for each dot of a group.
+#![tactic(auto)]
+
 mod checks;
 mod count;
 mod group_algebra;
