@@ -10,5 +10,5 @@ returns-in-Some g c e t book ly ne ls =
     let d = g.G.Group.dots c.args.algebra.now.group in
     let w = word d.order c.args.word.now in
     let last = c.in-Some.ensures e t book ly ne ls in
-    let value = c.scaled.ensures.value ∙ ap (scaled k d.order c.args.scale) (c.row-word.ensures (omega (arith, last.0.0, c.args.book.now.most))).value in
+    let value = c.scaled.ensures.value ∙ ap (scaled k d.order c.args.scale) (c.row_word.ensures (omega (arith, last.0.0, c.args.book.now.most))).value in
     clash_decided k d e c.args.book.now w _ _ _ last _ (subst (λ (x : List ℕ). MatchBool c.same.result (w ≡ x) (w ≡ x → ⊥)) value c.same.ensures)

@@ -10,14 +10,14 @@ returns-then-same g c e t book =
     sym (read_syndrome (g.met.F.Field.lawful c.args.algebra.now.field) (g.met.G.Group.lawful c.args.algebra.now.group) e t c.args.book.now book size _ c.args.i c.requires)
     ∙ c.if-same.ensures ∙ (zero_stores _ c.zero.result c.zero.ensures).value)
 
-pub returns-then-turn-clashes : goal.returns-then-turn-clashes
-returns-then-turn-clashes g c e t book =
+pub returns-then-turn_clashes : goal.returns-then-turn_clashes
+returns-then-turn_clashes g c e t book =
     let size : length c.args.book.now.rows ≡ 4096 = search rules in
     inr (
       c.loop-j.j,
       omega arith,
       turn_decided (g.met.F.Field.lawful c.args.algebra.now.field) (g.met.G.Group.lawful c.args.algebra.now.group) e t c.args.book.now book size _ c.args.i c.requires true c.loop-j.j _ _ _
-          (c.row-word-row.ensures (omega (arith, c.args.book.now.most))) c.turned.ensures c.turned-in-loop-j.ensures (c.if-turn-clashes.ensures e t book),
+          (c.row_word-row.ensures (omega (arith, c.args.book.now.most))) c.turned.ensures c.turned-in-loop-j.ensures (c.if-turn_clashes.ensures e t book),
     )
 
 pub loop-j-preserved : goal.loop-j-preserved
@@ -25,7 +25,7 @@ loop-j-preserved g c e t book =
     let size : length c.args.book.now.rows ≡ 4096 = search rules in
     below_more _ _ (c.loop-j.invariant e t book)
     (turn_decided (g.met.F.Field.lawful c.args.algebra.now.field) (g.met.G.Group.lawful c.args.algebra.now.group) e t c.args.book.now book size _ c.args.i c.requires false c.loop-j.j _ _ _
-    (c.row-word-row.ensures (omega (arith, c.args.book.now.most))) c.turned.ensures c.turned-in-loop-j.ensures (c.if-turn-clashes.ensures e t book))
+    (c.row_word-row.ensures (omega (arith, c.args.book.now.most))) c.turned.ensures c.turned-in-loop-j.ensures (c.if-turn_clashes.ensures e t book))
 
 pub returns : goal.returns
 returns g c e t book (inl z) =

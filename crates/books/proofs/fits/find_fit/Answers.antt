@@ -9,7 +9,7 @@ returns-in-Some g c e t book ly =
 
 pub loop-scale-preserved : goal.loop-scale-preserved
 loop-scale-preserved g c e t book ly =
-    below_more _ _ (c.loop-scale.invariant e t book ly) (λ ne. c.in-default.ensures e t book ly ne (omega arith))
+    below_more _ _ (c.loop-scale.invariant e t book ly) (λ ne. c.in_default.ensures e t book ly ne (omega arith))
 
 pub returns : goal.returns
 returns g c e t book ly s ls = c.loop-scale.invariant e t book ly s (omega arith)

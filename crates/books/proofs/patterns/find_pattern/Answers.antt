@@ -27,7 +27,7 @@ returns-in-Some g c e t r le lr book apart stored =
     (pattern.0, pattern.1, found.rest)
 
 pub loop-j-preserved : goal.loop-j-preserved
-loop-j-preserved g c e t book ly = below_more _ _ (c.loop-j.invariant e t book ly) (c.in-default.ensures e t book ly)
+loop-j-preserved g c e t book ly = below_more _ _ (c.loop-j.invariant e t book ly) (c.in_default.ensures e t book ly)
 
 pub returns : goal.returns
 returns g c e t r le lr book apart stored =

@@ -5,20 +5,20 @@ use Rattle.books.specs.Fitting.{NoFit}
 use Rattle.books.proofs.FoundPatterns.{turn_lawful}
 use Rattle.books.proofs.patterns.pattern_at.Goals as goal
 
-pub returns-in-err-fit : goal.returns-in-err-fit
-returns-in-err-fit g c e t book ly =
+pub returns-in_err-fit : goal.returns-in_err-fit
+returns-in_err-fit g c e t book ly =
     let d = g.G.Group.dots c.args.algebra.now.group in
     let lawful = turn_lawful (g.met.F.Field.lawful c.args.algebra.now.field).sums d c.args.j c.args.syndrome.now c.turned.result c.turned.ensures ly in
-    rw c.from-residual.ensures (subst (NoFit (g.F.Field.symbols c.args.algebra.now.field) d e c.args.book.now) c.turned.ensures.value (c.in-err-fit.ensures e t book lawful))
+    rw c.from_residual.ensures (subst (NoFit (g.F.Field.symbols c.args.algebra.now.field) d e c.args.book.now) c.turned.ensures.value (c.in_err-fit.ensures e t book lawful))
 
 pub returns : goal.returns
 returns g c e t book ly =
     let k = g.F.Field.symbols c.args.algebra.now.field in
     let d = g.G.Group.dots c.args.algebra.now.group in
-    let f = c.in-ok-fit.fit in
+    let f = c.in_ok-fit.fit in
     let lawful = turn_lawful (g.met.F.Field.lawful c.args.algebra.now.field).sums d c.args.j c.args.syndrome.now c.turned.result c.turned.ensures ly in
-    let found = c.in-ok-fit.ensures e t book lawful in
-    let word = c.scaled.ensures.value ∙ ap (scaled k d.order f.scale) (c.row-word-row.ensures (omega (arith, found.2.0, c.args.book.now.most))).value in (
+    let found = c.in_ok-fit.ensures e t book lawful in
+    let word = c.scaled.ensures.value ∙ ap (scaled k d.order f.scale) (c.row_word-row.ensures (omega (arith, found.2.0, c.args.book.now.most))).value in (
       f.scale,
       found.0,
       found.1,

@@ -3,11 +3,11 @@ use Rattle.marks_lines.specs.Held.{held}
 use Rattle.marks_lines.proofs.Grammar.{load_line, no_radius, no_symbols}
 use Rattle.marks_lines.proofs.request.load.Goals as goal
 
-pub returns-in-default : goal.returns-in-default
-returns-in-default c = no_radius c.args.rest.now c.in-default.ensures
+pub returns-in_default : goal.returns-in_default
+returns-in_default c = no_radius c.args.rest.now c.in_default.ensures
 
-pub returns-in-default-read : goal.returns-in-default-read
-returns-in-default-read c = no_symbols c.args.rest.now c.in-default-read.ensures
+pub returns-in_default-read : goal.returns-in_default-read
+returns-in_default-read c = no_symbols c.args.rest.now c.in_default-read.ensures
 
 pub returns : goal.returns
 returns c =

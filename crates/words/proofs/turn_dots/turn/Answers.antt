@@ -5,12 +5,12 @@ use Rattle.words.proofs.turn_dots.turn.Goals as goal
 pub bounds-target-to : goal.bounds-target-to
 bounds-target-to g c =
     let laws = g.met.G.Group.lawful c.args.group.now in
-    omega (arith, laws.product_below c.args.g c.loop-h.h, c.in-ok-check-length-2.ensures)
+    omega (arith, laws.product_below c.args.g c.loop-h.h, c.in_ok-check_length-2.ensures)
 
 pub loop-h-preserved : goal.loop-h-preserved
 loop-h-preserved g c =
-    let source = c.in-ok-check-length.ensures.0.0 in
-    let target = c.in-ok-check-length-2.ensures.0.0 in
+    let source = c.in_ok-check_length.ensures.0.0 in
+    let target = c.in_ok-check_length-2.ensures.0.0 in
     turned_more (g.met.G.Group.lawful c.args.group.now) c.args.g c.loop-h.h c.product-to.result c.args.source.now c.loop-h.target
     c.index-source-h.result (omega arith) (omega arith) (omega arith) (omega arith) c.product-to.ensures c.index-source-h.is c.loop-h.invariant
 
@@ -18,7 +18,7 @@ pub returns : goal.returns
 returns g c =
     record {
       answer = (
-        (c.in-ok-check-length.ensures.0.0 ∙ c.order-n.ensures, (c.in-ok-check-length-2.ensures.0.0 ∙ c.order-n.ensures, (omega arith, tt))),
+        (c.in_ok-check_length.ensures.0.0 ∙ c.order-n.ensures, (c.in_ok-check_length-2.ensures.0.0 ∙ c.order-n.ensures, (omega arith, tt))),
         λ h d lt. c.loop-h.invariant h d (omega arith),
       );
       kept = tt;

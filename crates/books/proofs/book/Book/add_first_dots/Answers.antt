@@ -9,7 +9,7 @@ loop-d-init g c = (0, omega arith, adds_none _ _ _ _ _ (λ r p. omega arith))
 pub loop-d-preserved : goal.loop-d-preserved
 loop-d-preserved g c =
     let (m, sum, adds) = c.loop-d.invariant in
-    (_, second_dots _ _ _ m _ (omega arith) sum, first_dots_more _ _ _ _ _ _ _ _ _ m _ (omega arith) adds c.add-first-symbols.ensures)
+    (_, second_dots _ _ _ m _ (omega arith) sum, first_dots_more _ _ _ _ _ _ _ _ _ m _ (omega arith) adds c.add_first_symbols.ensures)
 
 pub returns : goal.returns
 returns g c =

@@ -3,7 +3,7 @@ use Rattle.books.proofs.AddedRows.{first_symbols_more}
 use Rattle.books.proofs.book.Book.add_first_symbols.Goals as goal
 
 pub loop-s-preserved : goal.loop-s-preserved
-loop-s-preserved g c = first_symbols_more _ _ _ _ _ _ _ _ _ _ _ (omega arith) c.loop-s.invariant c.add-last-dots.ensures
+loop-s-preserved g c = first_symbols_more _ _ _ _ _ _ _ _ _ _ _ (omega arith) c.loop-s.invariant c.add_last_dots.ensures
 
 pub returns : goal.returns
 returns g c =

@@ -3,7 +3,7 @@ use Rattle.books.proofs.AddedRows.{last_dots_more}
 use Rattle.books.proofs.book.Book.add_last_dots.Goals as goal
 
 pub loop-d-preserved : goal.loop-d-preserved
-loop-d-preserved g c = last_dots_more _ _ _ _ _ _ _ _ _ _ (omega arith) c.loop-d.invariant c.add-last-symbols.ensures
+loop-d-preserved g c = last_dots_more _ _ _ _ _ _ _ _ _ _ (omega arith) c.loop-d.invariant c.add_last_symbols.ensures
 
 pub returns : goal.returns
 returns g c =

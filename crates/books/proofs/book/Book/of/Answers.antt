@@ -15,9 +15,9 @@ returns-then-t-eq1 g c few room =
 pub returns-then-t-eq2 : goal.returns-then-t-eq2
 returns-then-t-eq2 g c few room =
     book_two (g.met.F.Field.lawful c.args.algebra.now.field).sums _ (g.met.G.Group.lawful c.args.algebra.now.group).least _ _ few room _
-    c.empty-book.ensures.none c.empty-book.ensures.chained _ _ c.if-t-eq2.true c.add.ensures c.add-last-dots.ensures
+    c.empty-book.ensures.none c.empty-book.ensures.chained _ _ c.if-t-eq2.true c.add.ensures c.add_last_dots.ensures
 
 pub returns : goal.returns
 returns g c few room =
     book_three (g.met.F.Field.lawful c.args.algebra.now.field).sums _ (g.met.G.Group.lawful c.args.algebra.now.group).least _ _ few room _
-    c.empty-book.ensures.none c.empty-book.ensures.chained _ _ _ (omega arith) c.add.ensures c.add-last-dots.ensures c.add-first-dots.ensures
+    c.empty-book.ensures.none c.empty-book.ensures.chained _ _ _ (omega arith) c.add.ensures c.add_last_dots.ensures c.add_first_dots.ensures

@@ -9,10 +9,10 @@ returns-in-1 c _ _ _ _ _ = sym (ap (rows c.args.n c.args.q) c.in-1.is ∙ rows_o
 pub returns-in-2 : goal.returns-in-2
 returns-in-2 c _ _ _ _ _ = sym (ap (rows c.args.n c.args.q) c.in-2.is ∙ rows_two c.args.n c.args.q)
 
-pub returns-in-default : goal.returns-in-default
-returns-in-default c _ _ _ _ few =
+pub returns-in_default : goal.returns-in_default
+returns-in_default c _ _ _ _ few =
     let most : c.args.t ≡ 3 = omega arith in
     let n = c.args.n - 1 in
     let q = c.args.q - 1 in
-    ap (λ x. 1 + n * q + n * x / 2 * (q * q)) c.saturating-sub.ensures ∙ ap (λ x. 1 + n * q + x * (q * q)) (pair_choices n)
+    ap (λ x. 1 + n * q + n * x / 2 * (q * q)) c.saturating_sub.ensures ∙ ap (λ x. 1 + n * q + x * (q * q)) (pair_choices n)
     ∙ sym (ap (rows c.args.n c.args.q) most ∙ rows_three c.args.n c.args.q)

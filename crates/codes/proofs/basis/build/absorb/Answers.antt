@@ -22,8 +22,8 @@ returns-in-Some-inverse g c =
       many = c.extend.ensures.many;
     }
 
-pub returns-in-default-inverse : goal.returns-in-default-inverse
-returns-in-default-inverse g c =
+pub returns-in_default-inverse : goal.returns-in_default-inverse
+returns-in_default-inverse g c =
     let k = g.F.Field.symbols c.args.algebra.now.field in
     let n = (g.G.Group.dots c.args.algebra.now.group).order in
     let rest = c.residual-rest.result in
@@ -31,7 +31,7 @@ returns-in-default-inverse g c =
     let (lp, differs) = c.in-Some.ensures in
     let zero = word_zero n c.zero.result (g.met.G.Group.lawful c.args.algebra.now.group).most c.zero.ensures in
     let here = c.symbol.ensures ∙ at_word n rest p lp in
-    let none : k.inverse (at (word n rest) p) ≡ None = ap k.inverse (sym here) ∙ sym c.inverse.ensures ∙ c.in-default-inverse.is in
+    let none : k.inverse (at (word n rest) p) ≡ None = ap k.inverse (sym here) ∙ sym c.inverse.ensures ∙ c.in_default-inverse.is in
     record {
       absorbs = λ e le reduced cw.
           absurd (lead_has_inverse (g.met.F.Field.lawful c.args.algebra.now.field) le c.args.rows.now reduced (word n c.args.w.now) cw (word n rest) (c.residual-rest.ensures e reduced cw.0)
@@ -39,12 +39,12 @@ returns-in-default-inverse g c =
       many = c.requires;
     }
 
-pub returns-in-default : goal.returns-in-default
-returns-in-default g c =
+pub returns-in_default : goal.returns-in_default
+returns-in_default g c =
     let n = (g.G.Group.dots c.args.algebra.now.group).order in
     let zero = word_zero n c.zero.result (g.met.G.Group.lawful c.args.algebra.now.group).most c.zero.ensures in
     record {
       absorbs = λ e le reduced cw.
-          absorbs_within (g.met.F.Field.lawful c.args.algebra.now.field) le c.args.rows.now reduced (word n c.args.w.now) cw (word n c.residual-rest.result) (c.residual-rest.ensures e reduced cw.0) (c.in-default.ensures ∙ zero);
+          absorbs_within (g.met.F.Field.lawful c.args.algebra.now.field) le c.args.rows.now reduced (word n c.args.w.now) cw (word n c.residual-rest.result) (c.residual-rest.ensures e reduced cw.0) (c.in_default.ensures ∙ zero);
       many = c.requires;
     }

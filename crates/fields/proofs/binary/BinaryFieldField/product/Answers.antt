@@ -17,5 +17,5 @@ loop-i-preserved c =
         | else-b-i-eq1 w ↦ cc (times_bits_without q c.args.a c.args.b c.loop-i.i w.if-b-i-eq1.false)
       ],
       cc,
-      rw c.times-z-shifted.ensures (times_z_below q c.loop-i.shifted c.args.self.now.binary c.loop-i.invariant.2),
+      rw c.times_z-shifted.ensures (times_z_below q c.loop-i.shifted c.args.self.now.binary c.loop-i.invariant.2),
     )

@@ -8,13 +8,13 @@ loop-i-init c = filled_none _ _
 pub returns-then-codes-gt64 : goal.returns-then-codes-gt64
 returns-then-codes-gt64 c = too_long c.args.codes.now (omega arith)
 
-pub returns-in-err-held : goal.returns-in-err-held
-returns-in-err-held c =
-    rw c.from-residual.ensures (no_digit c.args.codes.now c.loop-i.i (omega arith) c.in-err-held.ensures)
+pub returns-in_err-held : goal.returns-in_err-held
+returns-in_err-held c =
+    rw c.from_residual.ensures (no_digit c.args.codes.now c.loop-i.i (omega arith) c.in_err-held.ensures)
 
 pub loop-i-preserved : goal.loop-i-preserved
 loop-i-preserved c =
-    let d = c.in-ok-held.ensures in
+    let d = c.in_ok-held.ensures in
     filled_more (λ x. 48 + x) c.args.codes.now c.loop-i.i _ c.loop-i.held (omega arith) d.0 d.1 c.loop-i.invariant
 
 pub returns : goal.returns

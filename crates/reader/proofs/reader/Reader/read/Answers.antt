@@ -16,14 +16,14 @@ returns-in-Some g c =
     let r = c.args.received.now in
     let b = c.args.mended.now in
     let m = c.args.message.now in
-    let a = c.read-with.result in
-    let b' = c.read-with.new.mended in
-    let m' = c.read-with.new.message in
+    let a = c.read_with.result in
+    let b' = c.read_with.new.mended in
+    let m' = c.read_with.new.message in
     let answer : Sound k p o → Reads k p (code_of p.order o) r b m a b' m'
-    = subst (λ o. Sound k p o → Reads k p (code_of p.order o) r b m a b' m') (sym c.in-Some.is) c.read-with.ensures.answer in
+    = subst (λ o. Sound k p o → Reads k p (code_of p.order o) r b m a b' m') (sym c.in-Some.is) c.read_with.ensures.answer in
     record {
       answer = answer;
-      kept = c.read-with.ensures.kept;
+      kept = c.read_with.ensures.kept;
       bound = λ sound. reads_bound field group (code_of p.order o) r b m a b' m' (answer sound);
       law = λ past lived. reads_lawful field group past (code_of p.order o) r b m a b' m' lived.0 (answer lived.1);
       lived = lived_on k p o (read r (length b) (length m)) tt;

@@ -10,8 +10,8 @@ returns-in-Some g c =
     let k = g.F.Field.symbols c.args.self.now.algebra.field in
     let p = g.G.Group.dots c.args.self.now.algebra.group in
     record {
-      answer = subst (λ o. Sound k p o → Syndromes k p (code_of p.order o) c.args.mark.now c.args.buffer.now c.syndrome-with.result c.syndrome-with.new.buffer) (sym c.in-Some.is) (λ _. c.syndrome-with.ensures.answer);
-      kept = c.syndrome-with.ensures.kept;
+      answer = subst (λ o. Sound k p o → Syndromes k p (code_of p.order o) c.args.mark.now c.args.buffer.now c.syndrome_with.result c.syndrome_with.new.buffer) (sym c.in-Some.is) (λ _. c.syndrome_with.ensures.answer);
+      kept = c.syndrome_with.ensures.kept;
       lived = lived_on k p c.args.self.now.code (find_syndrome c.args.mark.now (length c.args.buffer.now)) tt;
     }
 

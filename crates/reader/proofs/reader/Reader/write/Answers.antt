@@ -10,8 +10,8 @@ returns-in-Some g c =
     let k = g.F.Field.symbols c.args.self.now.algebra.field in
     let p = g.G.Group.dots c.args.self.now.algebra.group in
     record {
-      answer = subst (λ o. Sound k p o → Writes k p (code_of p.order o) c.args.message.now c.args.mark.now c.write-with.result c.write-with.new.mark) (sym c.in-Some.is) c.write-with.ensures.answer;
-      kept = c.write-with.ensures.kept;
+      answer = subst (λ o. Sound k p o → Writes k p (code_of p.order o) c.args.message.now c.args.mark.now c.write_with.result c.write_with.new.mark) (sym c.in-Some.is) c.write_with.ensures.answer;
+      kept = c.write_with.ensures.kept;
       lived = lived_on k p c.args.self.now.code (write c.args.message.now (length c.args.mark.now)) tt;
     }
 
