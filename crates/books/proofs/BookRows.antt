@@ -3,10 +3,10 @@ use Rattle.std.proofs.Common.{◌≡◌, ℕ, ◌+◌, ◌<◌, ◌≤◌, ◌�
 use Rattle.std.proofs.lemmas.Bool.{cases_lt}
 use Rattle.algebra.specs.Fields.{Symbols}
 use Rattle.algebra.specs.Groups.{Dots}
-use Rattle.words.specs.Stored.{Stores, word}
+use Rattle.words.specs.Stored.{Stores}
 use Rattle.words.specs.Words.{at, syndrome, tabulate}
 use Rattle.words.specs.declared.word.Word.{Word}
-use Rattle.words.proofs.Stored.{Filled, at_word, filled_stores}
+use Rattle.words.proofs.Stored.{Filled, filled_stores}
 use Rattle.words.proofs.Tabulate.{tabulate_ext, tabulate_is}
 use Rattle.books.specs.Adding.{Adds, Exactly, Pushed}
 use Rattle.books.specs.Books.{row_at, row_symbol, row_word}

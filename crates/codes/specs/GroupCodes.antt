@@ -10,7 +10,7 @@
 --     TurnCount g p c       0 for the zero word, else one more than the least turn with a nonzero symbol at dot 0
 --     choose m i            the binomial coefficient
 --     rows n q t            the number of words of weight at most t with symbol 1 at dot 0
-use Rattle.std.specs.Prelude.{◌≡◌, ℕ, zero, suc, ◌+◌, ◌-◌, ◌*◌, ◌^◌, ◌<◌, ◌≤◌, cond, ◌≢◌, List, [], ◌∷◌, map, length, ◌==◌, slice_index}
+use Rattle.std.specs.Prelude.{◌≡◌, ℕ, zero, suc, ◌+◌, ◌-◌, ◌*◌, ◌^◌, ◌<◌, ◌≤◌, cond, ◌≢◌, List, map, length, ◌==◌, slice_index}
 use Rattle.algebra.specs.Fields.{Symbols}
 use Rattle.algebra.specs.Groups.{Dots}
 use Rattle.words.specs.Words.{at, Lawful, Keeps, nought, syndrome, turned, weight}

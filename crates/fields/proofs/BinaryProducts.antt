@@ -3,7 +3,7 @@ use Rattle.std.proofs.Common.{◌≡◌, ℕ, ◌+◌, ◌/◌, ◌%◌, ◌^◌
 use lib.Bits.{bit_xor, xor_zero_r}
 use Rattle.std.proofs.lemmas.Bool.{eq-eqb, ne_eqb, ltb-true}
 use Rattle.fields.specs.FieldKinds.{listed, binary_orders, bit, times_z, times_power, times_bits}
-use Rattle.fields.specs.SmallFields.{every, every_at, each_listed, listed_at}
+use Rattle.fields.specs.SmallFields.{every, every_at, listed_at}
 
 pub times_power_more : (q a i : ℕ) → times_power q a (i + 1) ≡ times_z q (times_power q a i)
 unfolding times_power

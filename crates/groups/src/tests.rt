@@ -1,7 +1,6 @@
 // Products in the kinds of groups, and what is refused.
 use crate::{DoubleRing, Grid, Ring};
 use algebra::{Fault, Group, Part};
-use std::process::Abort;
 use std::test::Fail;
 
 #[test]
@@ -24,17 +23,16 @@ fn grids(rt: HostRuntime) -> Result<(), Fail> {
 }
 
 #[test]
-fn refusals(rt: HostRuntime) -> Result<(), Fail> {
-    check_refused(&rt, Ring::new(0).err())?;
-    check_refused(&rt, Ring::new(65).err())?;
-    check_refused(&rt, DoubleRing::new(0).err())?;
-    check_refused(&rt, DoubleRing::new(33).err())
+fn refusals(rt: HostRuntime) {
+    assert!(rt; is_refused(Ring::new(0).err()));
+    assert!(rt; is_refused(Ring::new(65).err()));
+    assert!(rt; is_refused(DoubleRing::new(0).err()));
+    assert!(rt; is_refused(DoubleRing::new(33).err()));
 }
 
-fn check_refused(rt: &impl Abort, fault: Option<Fault>) -> Result<(), Fail> {
-    let fault = fault.ok_or("made")?;
-    assert_eq!(rt; fault.refusal.number(), 1);
-    assert_eq!(rt; fault.part, Part::Dots);
-    assert_eq!(rt; fault.place, 0);
-    Ok(())
+fn is_refused(fault: Option<Fault>) -> bool {
+    match fault {
+        Some(fault) => fault.refusal.number() == 1 && fault.part == Part::Dots && fault.place == 0,
+        None => false,
+    }
 }

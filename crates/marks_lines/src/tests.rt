@@ -54,11 +54,11 @@ fn reply_lines(rt: HostRuntime) -> Result<(), Fail> {
         mended: mark,
         message,
     };
-    assert!(rt; show(&Reply::Loaded { k: 4, rows: 4096 }).as_slice() == b"ok 4 4096\n");
-    assert!(rt; show(&Reply::Written(mark)).as_slice() == b"ok 012340\n");
-    assert!(rt; show(&read).as_slice() == b"ok 1 12 012340 \n");
-    assert!(rt; show(&Reply::Cleared).as_slice() == b"ok\n");
-    assert!(rt; show(&Reply::Refused(15)).as_slice() == b"no 15\n");
-    assert!(rt; show(&Reply::Unknown).as_slice() == b"?\n");
+    assert!(rt; show(&Reply::Loaded { k: 4, rows: 4096 }).as_slice() == b"ok 4 4096\n".as_slice());
+    assert!(rt; show(&Reply::Written(mark)).as_slice() == b"ok 012340\n".as_slice());
+    assert!(rt; show(&read).as_slice() == b"ok 1 12 012340 \n".as_slice());
+    assert!(rt; show(&Reply::Cleared).as_slice() == b"ok\n".as_slice());
+    assert!(rt; show(&Reply::Refused(15)).as_slice() == b"no 15\n".as_slice());
+    assert!(rt; show(&Reply::Unknown).as_slice() == b"?\n".as_slice());
     Ok(())
 }

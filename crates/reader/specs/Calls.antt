@@ -13,8 +13,8 @@ use Rattle.algebra.specs.Groups.{Dots}
 use Rattle.algebra.specs.Refusals.{no_code_refused, reach_refused}
 use Rattle.algebra.specs.declared.fault.Fault.{Fault}
 use Rattle.words.specs.Buffers.{length_check, range_check}
-use Rattle.words.specs.Turns.{LeastTurn, alike_checks}
-use Rattle.words.specs.Words.{Keeps, less, syndrome, weight}
+use Rattle.words.specs.Turns.{LeastTurn}
+use Rattle.words.specs.Words.{less, syndrome, weight}
 use Rattle.codes.specs.GroupCodes.{MessageDots, Pattern, TurnCount, WrittenAs, chosen, rows}
 use Rattle.reader.specs.Loads.{load_checks}
 use Rattle.reader.specs.declared.record.ReadRecord.{ReadRecord}

@@ -7,7 +7,7 @@ use Rattle.words.specs.Words.{at, tabulate, total, Lawful, nought, plus, less, s
 use Rattle.words.proofs.Fields.{sum_product}
 use Rattle.words.proofs.Tabulate.{at_tabulate, tabulate_is, tabulate_ext}
 use Rattle.words.proofs.Totals.{total_cong, total_sum, sum_exchange, field_adds, product_total}
-use Rattle.words.proofs.Linear.{at_plus, at_scaled, nought_lawful, plus_lawful, less_lawful, plus_commutative, plus_associative, plus_nought, less_plus, plus_less}
+use Rattle.words.proofs.Linear.{at_plus, at_scaled, plus_lawful, less_lawful, plus_commutative, plus_associative, less_plus, plus_less}
 use Rattle.words.proofs.Spanning.{keeps_spanned}
 
 unfoldable pub spanned : Symbols → ℕ → (ℕ → ℕ) → (ℕ → List ℕ) → ℕ → List ℕ

@@ -1,6 +1,6 @@
 -- Weights: what keeps them, what bounds them, and the one word of weight 0.
-use Rattle.std.proofs.Common.{◌≡◌, ℕ, zero, suc, ◌+◌, ◌*◌, ◌<◌, ◌≤◌, cond, eqb, ◌≢◌, List, [], ◌∷◌, length, None, sym, refl, ap, ◌∙◌, ap₂, inl, inr, arith}
-use Rattle.std.proofs.lemmas.Bool.{cases_eq, eq-eqb, ne_eqb, cond-true, cond-false}
+use Rattle.std.proofs.Common.{◌≡◌, ℕ, zero, suc, ◌+◌, ◌<◌, ◌≤◌, ◌≢◌, List, length, sym, ap, ◌∙◌, ap₂, inl, inr, arith}
+use Rattle.std.proofs.lemmas.Bool.{cases_eq}
 use Rattle.algebra.specs.Fields.{Symbols, SumProductLaws, FieldLaws}
 use Rattle.algebra.specs.Groups.{Dots, GroupLaws}
 use Rattle.words.specs.Words.{at, total, nought, plus, less, scaled, turned, weight, Lawful}
@@ -8,7 +8,7 @@ use Rattle.words.proofs.Fields.{zero_below, product_zero, one_product}
 use Rattle.words.proofs.Groups.{product_back, product_forth}
 use Rattle.words.proofs.Counting.{mark, mark_other, mark_zero, numbers, numbers_add, weight_is_total}
 use Rattle.words.proofs.Tabulate.{length_tabulate, tabulate_is}
-use Rattle.words.proofs.Totals.{Adds, total_cong, total_zero, total_renumbered}
+use Rattle.words.proofs.Totals.{total_cong, total_zero, total_renumbered}
 use Rattle.words.proofs.Linear.{back, at_nought, at_plus, at_less, at_scaled, at_turned, nought_lawful, plus_lawful, less_lawful, scaled_lawful}
 use Rattle.words.proofs.Turning.{length_turned}
 

@@ -1,6 +1,6 @@
 use Rattle.std.proofs.Common.{◌≡◌, ◌<◌, sym, refl, subst, arith}
 use Rattle.words.specs.Stored.{word}
-use Rattle.words.specs.Words.{turned, Keeps}
+use Rattle.words.specs.Words.{Keeps}
 use Rattle.words.proofs.Turning.{turned_keeps}
 use Rattle.codes.specs.Eliminations.{Absorbs, Spans}
 use Rattle.codes.proofs.EliminationSteps.{spans_none, spans_more}

@@ -1,4 +1,4 @@
-use Rattle.std.proofs.Common.{◌≡◌, ◌≤◌, length, arith, rules}
+use Rattle.std.proofs.Common.{◌≡◌, length, arith, rules}
 use Rattle.marks_lines.proofs.LongLines.{empty_held}
 use Rattle.marks_lines.proofs.pending.Pending.is_empty.Goals as goal
 

@@ -1,4 +1,4 @@
-use Rattle.std.proofs.Common.{◌≡◌, ◌<◌, length, arith, rules}
+use Rattle.std.proofs.Common.{◌≡◌, length, arith, rules}
 use Rattle.marks_lines.proofs.LongLines.{held_full, held_more}
 use Rattle.marks_lines.proofs.pending.Pending.push.Goals as goal
 

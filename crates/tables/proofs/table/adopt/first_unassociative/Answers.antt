@@ -1,4 +1,4 @@
-use Rattle.std.proofs.Common.{◌≡◌, ℕ, ◌+◌, ◌*◌, ◌<◌, arith, below_more}
+use Rattle.std.proofs.Common.{ℕ, ◌<◌, arith, below_more}
 use Rattle.tables.specs.Tables.{Associates}
 use Rattle.tables.specs.TablesLemmas.{first_unassociative}
 use Rattle.tables.proofs.table.adopt.first_unassociative.Goals as goal
