@@ -15,7 +15,7 @@ use Rattle.codes.specs.GroupCodes.{Pattern, TurnCount, WrittenAs, chosen}
 use Rattle.reader.specs.Histories.{Call, CountsTurns, InForce, ReadLaw, Readable, ReadsLawfully}
 use Rattle.reader.specs.Loads.{Passes}
 use Rattle.reader.specs.declared.record.ReadRecord.{ReadRecord}
-use Rattle.reader.proofs.InForce.{in-force-passes, in-force-unique}
+use Rattle.reader.proofs.InForce.{in_force_passes, in_force_unique}
 use Rattle.codes.proofs.MessageSymbols.{same_from_message_dots}
 use Rattle.codes.proofs.MessageWords.{message_dots_unique}
 use Rattle.books.proofs.Searching.{nought_is_pattern, turned_mark_back, turned_mark_pattern}
@@ -107,5 +107,5 @@ module _ {k : Symbols} (field : FieldLaws k) {g : Dots} (group : GroupLaws g) wh
 
   pub reads_lawful : (past : List Call) (o : Option Code) (r b m : List ℕ) (a : Result ReadRecord Fault) (b' m' : List ℕ) → InForce k g past o → Reads k g o r b m a b' m' → ReadsLawfully k g past r (length b) (length m) a b' m'
   reads_lawful past o r b m a b' m' left answer = λ c ds force fit.
-      read_law c (passes_lawful k g c.word c.radius (in-force-passes force)) ds r b m b' m' fit a
-      (subst (λ x. Reads k g x r b m a b' m') (in-force-unique left force) answer)
+      read_law c (passes_lawful k g c.word c.radius (in_force_passes force)) ds r b m b' m' fit a
+      (subst (λ x. Reads k g x r b m a b' m') (in_force_unique left force) answer)

@@ -10,7 +10,7 @@ use Rattle.reader.specs.declared.code.Code.{Code}
 use Rattle.runs.specs.declared.runs.Call.{Call}
 use Rattle.runs.specs.declared.runs.Call.TheVariants.{Clear}
 use Rattle.runs.specs.declared.runs.Reply.{Reply}
-use Rattle.reader.proofs.InForce.{in-force-unique}
+use Rattle.reader.proofs.InForce.{in_force_unique}
 
 pub record Ran (k : Symbols) (g : Dots) (xs : List Call) (ys₀ ys : List Reply) (o : Option Code) (i : ℕ) : Type 0 where
   pub lived : Lived k g (history xs i) o
@@ -48,7 +48,7 @@ module _ (k : Symbols) (g : Dots) (xs : List Call) where
             served = below_more _ i
                 (λ j lt c force. subst (Served k g c (call_at xs j)) (old j (λ e. omega arith)) (before.lawful.served j lt c force))
                 (λ c force. subst (Served k g c (call_at xs i)) new
-                (subst (λ c. Served k g c (call_at xs i) y) (in-force-unique before.lived.0 force) (answer before.lived.1)));
+                (subst (λ c. Served k g c (call_at xs i) y) (in_force_unique before.lived.0 force) (answer before.lived.1)));
             read = below_more _ i
                 (λ j lt. subst (ReadFaithfully k g (history xs j) (call_at xs j)) (old j (λ e. omega arith)) (before.lawful.read j lt))
                 (subst (ReadFaithfully k g (history xs i) (call_at xs i)) new (law _ before.lived));

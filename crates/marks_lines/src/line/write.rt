@@ -1,7 +1,7 @@
 // Writes what there is still room for.
 ghost use Rattle.std.specs.Prelude.{◌≡◌, [], ◌∷◌, decimal};
 ghost use Rattle.marks_lines.specs.Held.{Appends, text as text_of};
-ghost use Rattle.marks_lines.specs.Replies.{number as number_of_lem, word as word_of};
+ghost use Rattle.marks_lines.specs.Replies.{number as number_of, word as word_of};
 
 use super::Line;
 use crate::digits::Digits;
@@ -43,7 +43,7 @@ impl Line {
     }
 
     pub(crate) fn number(&mut self, n: usize)
-        ensures { Appends self.old (number_of_lem n) self.new }
+        ensures { Appends self.old (number_of n) self.new }
     {
         self.push(b' ');
         self.decimal(n);

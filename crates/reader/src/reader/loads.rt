@@ -1,7 +1,7 @@
 // Loading a code, and letting it go.
 ghost use Rattle.std.specs.Prelude.{◌≡◌, List, [], ◌∷◌, None, OnErr};
 ghost use Rattle.reader.specs.Calls.{Loads};
-ghost use Rattle.reader.specs.Histories.{Call, load as load_of, clear as Clear_of};
+ghost use Rattle.reader.specs.Histories.{Call, load as load_of, clear as clear_of};
 ghost use Rattle.reader.specs.Stored.{Lived};
 
 use crate::reader::Reader;
@@ -35,7 +35,7 @@ impl<F: Field, G: Group> Reader<F, G> {
 
     pub fn clear(&mut self)
         ensures after { self.new ≡ record { algebra = self.old.algebra; code = None } }
-        ensures lived { (past : List Call) → Lived (F.Field.symbols self.old.algebra.field) (G.Group.dots self.old.algebra.group) (Clear_of ∷ past) self.new.code }
+        ensures lived { (past : List Call) → Lived (F.Field.symbols self.old.algebra.field) (G.Group.dots self.old.algebra.group) (clear_of ∷ past) self.new.code }
     {
         self.code = None;
     }

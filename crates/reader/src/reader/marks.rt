@@ -1,7 +1,7 @@
 // The calls that leave the reader as it is.
 ghost use Rattle.std.specs.Prelude.{◌≡◌, ◌+◌, ◌≤◌, List, ◌∷◌, length, IfOk, OnErr};
 ghost use Rattle.reader.specs.Calls.{Alikes, Facts, Reads, Syndromes, Writes};
-ghost use Rattle.reader.specs.Histories.{Call, ReadsLawfully, alike as alike_of, facts as facts_of, find_syndrome as syndrome_of, read as Read_of, write as write_of};
+ghost use Rattle.reader.specs.Histories.{Call, ReadsLawfully, alike as alike_of, facts as facts_of, find_syndrome as syndrome_of, read as read_of, write as write_of};
 ghost use Rattle.reader.specs.Stored.{Lived, Sound, code_of};
 
 use crate::reader::Reader;
@@ -34,7 +34,7 @@ impl<F: Field, G: Group> Reader<F, G> {
         ensures kept { OnErr result ((mended.new ≡ mended.old) × (message.new ≡ message.old)) }
         ensures bound { let k = F.Field.symbols self.now.algebra.field in let g = G.Group.dots self.now.algebra.group in Sound k g self.now.code → IfOk result (λ x. x.wrong + x.turns ≤ g.order + 1) }
         ensures law { let k = F.Field.symbols self.now.algebra.field in let g = G.Group.dots self.now.algebra.group in (past : List Call) → Lived k g past self.now.code → ReadsLawfully k g past received.now (length mended.old) (length message.old) result mended.new message.new }
-        ensures lived { let k = F.Field.symbols self.now.algebra.field in let g = G.Group.dots self.now.algebra.group in (past : List Call) → Lived k g past self.now.code → Lived k g (Read_of received.now (length mended.old) (length message.old) ∷ past) self.now.code }
+        ensures lived { let k = F.Field.symbols self.now.algebra.field in let g = G.Group.dots self.now.algebra.group in (past : List Call) → Lived k g past self.now.code → Lived k g (read_of received.now (length mended.old) (length message.old) ∷ past) self.now.code }
     {
         match &self.code {
             Some(code) => read_with(&self.algebra, code, received, mended, message),

@@ -1,6 +1,6 @@
 // One call handed on to a reader.
 ghost use Rattle.std.specs.Prelude.{◌≡◌, List, [], ◌∷◌};
-ghost use Rattle.reader.specs.Histories.{Call as PastCall, load as load_of, write as write_of, read as Read_of, find_syndrome as syndrome_of, facts as facts_of, alike as alike_of};
+ghost use Rattle.reader.specs.Histories.{Call as PastCall, load as load_of, write as write_of, read as read_of, find_syndrome as syndrome_of, facts as facts_of, alike as alike_of};
 ghost use Rattle.runs.specs.Runs.{ReadFaithfully, Served, reply, spoken};
 ghost use Rattle.reader.specs.Stored.{Lived, Sound, code_of};
 ghost use Rattle.words.specs.Words.{at, tabulate};
@@ -63,8 +63,8 @@ fn serve_read<F: Field, G: Group>(
     mended: usize,
     message: usize,
 ) -> Reply
-    ensures answer { let k = F.Field.symbols reader.now.algebra.field in let g = G.Group.dots reader.now.algebra.group in Sound k g reader.now.code → Served k g (code_of g.order reader.now.code) (Read_of received.now mended message) result }
-    ensures law { let k = F.Field.symbols reader.now.algebra.field in let g = G.Group.dots reader.now.algebra.group in (past : List PastCall) → Lived k g past reader.now.code → ReadFaithfully k g past (Read_of received.now mended message) result }
+    ensures answer { let k = F.Field.symbols reader.now.algebra.field in let g = G.Group.dots reader.now.algebra.group in Sound k g reader.now.code → Served k g (code_of g.order reader.now.code) (read_of received.now mended message) result }
+    ensures law { let k = F.Field.symbols reader.now.algebra.field in let g = G.Group.dots reader.now.algebra.group in (past : List PastCall) → Lived k g past reader.now.code → ReadFaithfully k g past (read_of received.now mended message) result }
 {
     let mut mark = [0; 65];
     let mut symbols = [0; 65];
