@@ -18,7 +18,7 @@ MADE = re.compile(r"(in|if|then|else|loop|returns|from-residual|from-in|invarian
 
 
 def main():
-    files = sorted(p for p in glob.glob("crates/**/*", recursive=True) if p.endswith((".rt", ".antt")))
+    files = sorted(p for p in glob.glob("crates/**/*", recursive=True) if p.endswith((".rt", ".antt")) and "/out/" not in p)
     texts = {p: open(p, encoding="utf-8").read() for p in files}
     own, library, plain = set(), set(), collections.defaultdict(set)
     for p, t in texts.items():

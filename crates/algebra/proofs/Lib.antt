@@ -1,2 +1,4 @@
 pub mod Coded
+pub mod FieldInverses
 pub mod GroupLaws
+pub mod SumProducts

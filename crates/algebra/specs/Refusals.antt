@@ -1,10 +1,14 @@
 -- The refusals, and what each tells.
 --     refusals             each refusal with its number, in their order
 --     Numbered x n         n is the number of the refusal x
+--     number x             that number
 --     parts                each part with its name
 --     Named p name         name is the name of the part p
+--     part_text p          that name
+--     fault_text f         what is printed of the fault f
 --     order_refused p ..   the fault of each refusal, with its part and its place
-use Rattle.std.specs.Prelude.{◌≡◌, ℕ, ◌<◌, List, [], ◌∷◌, length, codes, slice_index_or}
+use Rattle.std.specs.Prelude.{◌≡◌, ℕ, ◌<◌, List, [], ◌∷◌, ◌++◌, length, codes, slice_index_or}
+use Rattle.std.specs.Fmt.{decimal}
 use Rattle.algebra.specs.declared.fault.Refusal.{Refusal}
 use Rattle.algebra.specs.declared.fault.Refusal.TheVariants.{Order, TableSize, Entry, Identity, Inverse, Association, NoCode, Length, Range, Radius, Book, NotIdempotent, NotCentral, TooClose, OutOfReach}
 use Rattle.algebra.specs.declared.fault.Part.{Part}
@@ -19,11 +23,36 @@ refusals =
 abbrev pub Numbered : Refusal → ℕ → Type 0
 Numbered x n = (i : ℕ) × (i < length refusals) × (slice_index_or refusals i (x, 0) ≡ (x, n))
 
+abbrev pub number : Refusal → ℕ
+number Order = 1
+number TableSize = 2
+number Entry = 3
+number Identity = 4
+number Inverse = 5
+number Association = 6
+number NoCode = 7
+number Length = 8
+number Range = 9
+number Radius = 10
+number Book = 11
+number NotIdempotent = 12
+number NotCentral = 13
+number TooClose = 14
+number OutOfReach = 15
+
 abbrev pub parts : List (Part × List ℕ)
 parts = (Symbols, codes "symbols") ∷ (Dots, codes "dots") ∷ (Reader, codes "reader") ∷ []
 
 abbrev pub Named : Part → List ℕ → Type 0
 Named p name = (i : ℕ) × (i < length parts) × (slice_index_or parts i (p, []) ≡ (p, name))
+
+abbrev pub part_text : Part → List ℕ
+part_text Symbols = codes "symbols"
+part_text Dots = codes "dots"
+part_text Reader = codes "reader"
+
+abbrev pub fault_text : Fault → List ℕ
+fault_text f = codes "rule " ++ decimal (number f.refusal) ++ codes ", part " ++ part_text f.part ++ codes ", place " ++ decimal f.place
 
 abbrev pub fault : Refusal → Part → ℕ → Fault
 fault r p i = record { refusal = r; part = p; place = i }

@@ -18,8 +18,12 @@ pub trait Field {
     fn product(&self, a: u8, b: u8) -> u8
         ensures { result ≡ (symbols self.now).product a b };
 
+    // The one code whose product with a is 1, if there is one.
     fn inverse(&self, a: u8) -> Option<u8>
-        ensures { result ≡ (symbols self.now).inverse a };
+        ensures { result ≡ (symbols self.now).inverse a }
+    {
+        (0..self.order()).find(|b| self.product(a, *b) == 1)
+    }
 
     ghost lawful: { (x : Self) → FieldLaws (symbols x) };
 }

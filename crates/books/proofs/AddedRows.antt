@@ -3,33 +3,48 @@ use Rattle.std.proofs.Common.{◌≡◌, ℕ, suc, ◌+◌, ◌-◌, ◌*◌, �
 use Rattle.std.proofs.lemmas.Bool.{cases_lt}
 use Rattle.algebra.specs.Fields.{Symbols, SumProductLaws}
 use Rattle.algebra.specs.Groups.{Dots}
-use Rattle.books.specs.Adding.{Adds, Exactly, FirstDots, FirstSymbols, Grown, LastDots, LastSymbols}
+use Rattle.books.specs.Adding.{Adds, Exactly, FirstDots, Grown, LastDots}
 use Rattle.codes.specs.GroupCodes.{choose, rows}
-use Rattle.books.specs.Books.{BookOf, Chained, row_at}
+use Rattle.books.specs.Books.{BookOf, row_at}
 use Rattle.books.specs.declared.book.Book.{Book}
+use Rattle.books.specs.declared.book.Placed.{Placed}
+use Rattle.books.specs.declared.book.Row.{Row}
 use Rattle.books.proofs.BookRows.{adds_none, adds_then}
-use Rattle.books.proofs.FewSymbols.{Listed, listed_row_word, row_word_listed}
+use Rattle.books.proofs.FewSymbols.{Listed, listed_row_word, row_word_listed, unplaced}
 use Rattle.books.proofs.RowCounts.{choose_two, rows_one, rows_two, rows_three}
 
 one_more : (a b m : ℕ) → b ≤ a → (a + 1 - b) * m ≡ (a - b) * m + m
 one_more a b m h = let e : a + 1 - b ≡ suc (a - b) = omega arith in ap (λ x. x * m) e ∙ suc-mul (a - b) m
 
+-- the rows with the first symbol p, and a symbol below q but 0 at the dot c
+abbrev pub LastSymbols : Placed → (c q : ℕ) → Row → Type 0
+LastSymbols p c q r =
+    (r.first.dot ≡ p.dot) × (r.first.symbol ≡ p.symbol) × (r.second.dot ≡ c) × (1 ≤ r.second.symbol) × (r.second.symbol < q)
+
+-- the rows with a symbol below s but 0 at the dot d, and any but 0 at a later dot below n
+abbrev pub FirstSymbols : (d s n q : ℕ) → Row → Type 0
+FirstSymbols d s n q r =
+    (r.first.dot ≡ d) × (1 ≤ r.first.symbol) × (r.first.symbol < s) × (d < r.second.dot) × (r.second.dot < n) × (1 ≤ r.second.symbol) × (r.second.symbol < q)
+
 module _ (k : Symbols) (g : Dots) (e : List ℕ) (b x y : Book) where
-  pub last_symbols_more : (d f c s : ℕ) → 1 ≤ s → Adds k g e (s - 1) (LastSymbols d f c s) b x → Adds k g e 1 (Exactly d f c s) x y → Adds k g e (s + 1 - 1) (LastSymbols d f c (s + 1)) b y
-  last_symbols_more d f c s h = adds_then k g e (s - 1) 1 (s + 1 - 1) (LastSymbols d f c s) (Exactly d f c s) (LastSymbols d f c (s + 1)) b x y (omega arith)
-      (λ r p. omega arith) (λ r p. omega arith) (λ r p. elim (cases_lt r.second_symbol s) [ inl lt ↦ inl (omega arith) | inr le ↦ inr (omega arith) ])
+  pub last_symbols_more : (p : Placed) (c s : ℕ) → 1 ≤ s → Adds k g e (s - 1) (LastSymbols p c s) b x → Adds k g e 1 (Exactly p (record { dot = c; symbol = s })) x y → Adds k g e (s + 1 - 1) (LastSymbols p c (s + 1)) b y
+  last_symbols_more p c s h = adds_then k g e (s - 1) 1 (s + 1 - 1) (LastSymbols p c s) (Exactly p (record { dot = c; symbol = s })) (LastSymbols p c (s + 1)) b x y (omega arith)
+      (λ r a. omega arith) (λ r a. omega arith) (λ r a. elim (cases_lt r.second.symbol s) [ inl lt ↦ inl (omega arith) | inr le ↦ inr (omega arith) ])
 
-  pub last_dots_more : (d f c q : ℕ) → suc d ≤ c → Adds k g e ((c - suc d) * (q - 1)) (LastDots d f c q) b x → Adds k g e (q - 1) (LastSymbols d f c q) x y → Adds k g e ((c + 1 - suc d) * (q - 1)) (LastDots d f (c + 1) q) b y
-  last_dots_more d f c q h = adds_then k g e ((c - suc d) * (q - 1)) (q - 1) ((c + 1 - suc d) * (q - 1)) (LastDots d f c q) (LastSymbols d f c q) (LastDots d f (c + 1) q) b x y (one_more c (suc d) (q - 1) h)
-      (λ r p. omega arith) (λ r p. omega arith) (λ r p. elim (cases_lt r.second_dot c) [ inl lt ↦ inl (omega arith) | inr le ↦ inr (omega arith) ])
+  pub last_dots_more : (p : Placed) (c q : ℕ) → suc p.dot ≤ c → Adds k g e ((c - suc p.dot) * (q - 1)) (LastDots p c q) b x → Adds k g e (q - 1) (LastSymbols p c q) x y → Adds k g e ((c + 1 - suc p.dot) * (q - 1)) (LastDots p (c + 1) q) b y
+  last_dots_more p c q h = adds_then k g e ((c - suc p.dot) * (q - 1)) (q - 1) ((c + 1 - suc p.dot) * (q - 1)) (LastDots p c q) (LastSymbols p c q) (LastDots p (c + 1) q) b x y (one_more c (suc p.dot) (q - 1) h)
+      (λ r a. omega arith) (λ r a. omega arith) (λ r a. elim (cases_lt r.second.dot c) [ inl lt ↦ inl (omega arith) | inr le ↦ inr (omega arith) ])
 
-  pub first_symbols_more : (d s n q m : ℕ) → 1 ≤ s → Adds k g e ((s - 1) * m) (FirstSymbols d s n q) b x → Adds k g e m (LastDots d s n q) x y → Adds k g e ((s + 1 - 1) * m) (FirstSymbols d (s + 1) n q) b y
-  first_symbols_more d s n q m h = adds_then k g e ((s - 1) * m) m ((s + 1 - 1) * m) (FirstSymbols d s n q) (LastDots d s n q) (FirstSymbols d (s + 1) n q) b x y (one_more s 1 m h)
-      (λ r p. omega arith) (λ r p. omega arith) (λ r p. elim (cases_lt r.first_symbol s) [ inl lt ↦ inl (omega arith) | inr le ↦ inr (omega arith) ])
+  pub first_symbols_more : (d s n q m : ℕ) → 1 ≤ s → Adds k g e ((s - 1) * m) (FirstSymbols d s n q) b x → Adds k g e m (LastDots (record { dot = d; symbol = s }) n q) x y → Adds k g e ((s + 1 - 1) * m) (FirstSymbols d (s + 1) n q) b y
+  first_symbols_more d s n q m h = adds_then k g e ((s - 1) * m) m ((s + 1 - 1) * m) (FirstSymbols d s n q) (LastDots (record { dot = d; symbol = s }) n q) (FirstSymbols d (s + 1) n q) b x y (one_more s 1 m h)
+      (λ r a. omega arith) (λ r a. omega arith) (λ r a. elim (cases_lt r.first.symbol s) [ inl lt ↦ inl (omega arith) | inr le ↦ inr (omega arith) ])
 
   pub first_dots_more : (d n q m l : ℕ) → 1 ≤ d → Adds k g e m (FirstDots d n q) b x → Adds k g e l (FirstSymbols d q n q) x y → Adds k g e (m + l) (FirstDots (d + 1) n q) b y
   first_dots_more d n q m l h = adds_then k g e m l (m + l) (FirstDots d n q) (FirstSymbols d q n q) (FirstDots (d + 1) n q) b x y (omega arith)
-      (λ r p. omega arith) (λ r p. omega arith) (λ r p. elim (cases_lt r.first_dot d) [ inl lt ↦ inl (omega arith) | inr le ↦ inr (omega arith) ])
+      (λ r a. omega arith) (λ r a. omega arith) (λ r a. elim (cases_lt r.first.dot d) [ inl lt ↦ inl (omega arith) | inr le ↦ inr (omega arith) ])
+
+pub adds_to : {k : Symbols} {g : Dots} {e : List ℕ} {m : ℕ} {P : Row → Type 0} {b x y : Book} → y ≡ x → Adds k g e m P b x → Adds k g e m P b y
+adds_to {k} {g} {e} {m} {P} {b} same = subst (Adds k g e m P b) (sym same)
 
 -- the choices of a second dot after d
 pub second_dots : (n d p m t : ℕ) → d < n → m + choose (n - d) 2 * (p * p) ≡ t → m + p * ((n - suc d) * p) + choose (n - (d + 1)) 2 * (p * p) ≡ t
@@ -51,7 +66,7 @@ abbrev Lists : Symbols → Dots → List ℕ → ℕ → Book → Book → Type 
 Lists k g e s b c = Adds k g e (rows g.order k.order s) (Listed g.order k.order s) b c
 
 -- the rows of weight 1, then of weight 2, then of weight 3
-module _ {k : Symbols} (laws : SumProductLaws k) (g : Dots) (least : 1 ≤ g.order) (e : List ℕ) (t : ℕ) (few : t ≤ 3) (room : rows g.order k.order t ≤ 4096) (b : Book) (none : b.count ≡ 0) (chain : Chained b) where
+module _ {k : Symbols} (laws : SumProductLaws k) (g : Dots) (least : 1 ≤ g.order) (e : List ℕ) (t : ℕ) (few : t ≤ 3) (room : rows g.order k.order t ≤ 4096) (b : Book) (none : b.count ≡ 0) where
   book_of : (s : ℕ) (c : Book) → t ≡ s → Lists k g e s b c → BookOf k g e t c
   book_of s c is adds =
       let grown : Grown k g e (rows g.order k.order t) (Listed g.order k.order t) b c = subst (λ x. Lists k g e x b c) (sym is) adds (omega arith) in
@@ -63,28 +78,27 @@ module _ {k : Symbols} (laws : SumProductLaws k) (g : Dots) (least : 1 ≤ g.ord
             let (r, listed, same) = row_word_listed k g.order t few a row in
             let (i, l, at) = grown.all r listed in
             (i, l, at ∙ same);
-        chained = grown.chained chain;
       }
 
-  lists_one : (x : Book) → Adds k g e 1 (Exactly 0 0 0 0) b x → Lists k g e 1 b x
+  lists_one : (x : Book) → Adds k g e 1 (Exactly unplaced unplaced) b x → Lists k g e 1 b x
   lists_one x adds = rw (rows_one g.order k.order) adds
 
-  lists_two : (x y : Book) → Lists k g e 1 b x → Adds k g e ((g.order - 1) * (k.order - 1)) (LastDots 0 0 g.order k.order) x y → Lists k g e 2 b y
-  lists_two x y = adds_then k g e (rows g.order k.order 1) ((g.order - 1) * (k.order - 1)) (rows g.order k.order 2) (Listed g.order k.order 1) (LastDots 0 0 g.order k.order) (Listed g.order k.order 2) b x y
+  lists_two : (x y : Book) → Lists k g e 1 b x → Adds k g e ((g.order - 1) * (k.order - 1)) (LastDots unplaced g.order k.order) x y → Lists k g e 2 b y
+  lists_two x y = adds_then k g e (rows g.order k.order 1) ((g.order - 1) * (k.order - 1)) (rows g.order k.order 2) (Listed g.order k.order 1) (LastDots unplaced g.order k.order) (Listed g.order k.order 2) b x y
       (rows_two g.order k.order ∙ omega (arith, rows_one g.order k.order)) (λ r. inl) (λ r. inr) (λ r p. p)
 
   lists_three : (y z : Book) → Lists k g e 2 b y → Adds k g e (choose (g.order - 1) 2 * ((k.order - 1) * (k.order - 1))) (FirstDots g.order g.order k.order) y z → Lists k g e 3 b z
   lists_three y z = adds_then k g e (rows g.order k.order 2) (choose (g.order - 1) 2 * ((k.order - 1) * (k.order - 1))) (rows g.order k.order 3) (Listed g.order k.order 2) (FirstDots g.order g.order k.order) (Listed g.order k.order 3) b y z
       (rows_three g.order k.order ∙ omega (arith, rows_two g.order k.order)) (λ r. inl) (λ r. inr) (λ r p. p)
 
-  pub book_none : t ≡ 0 → BookOf k g e t b
-  book_none is = book_of 0 b is (adds_none k g e (Listed g.order k.order 0) b (λ r p. p))
+  pub book_none : (x : Book) → t ≡ 0 → x ≡ b → BookOf k g e t x
+  book_none x is same = book_of 0 x is (adds_to same (adds_none k g e (Listed g.order k.order 0) b (λ r p. p)))
 
-  pub book_one : (x : Book) → t ≡ 1 → Adds k g e 1 (Exactly 0 0 0 0) b x → BookOf k g e t x
+  pub book_one : (x : Book) → t ≡ 1 → Adds k g e 1 (Exactly unplaced unplaced) b x → BookOf k g e t x
   book_one x is one = book_of 1 x is (lists_one x one)
 
-  pub book_two : (x y : Book) → t ≡ 2 → Adds k g e 1 (Exactly 0 0 0 0) b x → Adds k g e ((g.order - 1) * (k.order - 1)) (LastDots 0 0 g.order k.order) x y → BookOf k g e t y
+  pub book_two : (x y : Book) → t ≡ 2 → Adds k g e 1 (Exactly unplaced unplaced) b x → Adds k g e ((g.order - 1) * (k.order - 1)) (LastDots unplaced g.order k.order) x y → BookOf k g e t y
   book_two x y is one two = book_of 2 y is (lists_two x y (lists_one x one) two)
 
-  pub book_three : (x y z : Book) → t ≡ 3 → Adds k g e 1 (Exactly 0 0 0 0) b x → Adds k g e ((g.order - 1) * (k.order - 1)) (LastDots 0 0 g.order k.order) x y → Adds k g e (choose (g.order - 1) 2 * ((k.order - 1) * (k.order - 1))) (FirstDots g.order g.order k.order) y z → BookOf k g e t z
+  pub book_three : (x y z : Book) → t ≡ 3 → Adds k g e 1 (Exactly unplaced unplaced) b x → Adds k g e ((g.order - 1) * (k.order - 1)) (LastDots unplaced g.order k.order) x y → Adds k g e (choose (g.order - 1) 2 * ((k.order - 1) * (k.order - 1))) (FirstDots g.order g.order k.order) y z → BookOf k g e t z
   book_three x y z is one two three = book_of 3 z is (lists_three y z (lists_two x y (lists_one x one) two) three)

@@ -1,7 +1,7 @@
 -- Words of small weight: a word with 1 at dot 0 and at most two more nonzero symbols is the word of a row.
 --     clear d w             w with 0 at dot d
 --     Listed n q t r        the book for radius t of n dots and q symbols has a row with the symbols of r
-use Rattle.std.proofs.Common.{◌≡◌, ℕ, zero, suc, ◌<◌, ◌≤◌, eqb, ◌≢◌, ◌⊎◌, List, [], ◌∷◌, length, set, sym, refl, ap, ◌∙◌, inl, inr, arith}
+use Rattle.std.proofs.Common.{◌≡◌, ℕ, zero, suc, ◌<◌, ◌≤◌, eqb, ◌≢◌, ◌⊎◌, List, [], ◌∷◌, None, length, set, sym, refl, ap, ◌∙◌, inl, inr, arith}
 use Rattle.std.proofs.lemmas.List.{get_or-set_same, get_or-set_other, length-set}
 use Rattle.std.proofs.lemmas.Bool.{cases_eq, cases_lt, eq-eqb, ne_eqb, cond-true, cond-false, cond_both}
 use Rattle.algebra.specs.Fields.{Symbols, SumProductLaws}
@@ -10,8 +10,9 @@ use Rattle.words.proofs.Counting.{mark_most, mark_other, mark_zero}
 use Rattle.words.proofs.Linear.{tabulate_lawful}
 use Rattle.words.proofs.Tabulate.{at_past, at_tabulate, at_tabulate_past, tabulate_is}
 use Rattle.books.specs.Adding.{Exactly, FirstDots, LastDots}
-use Rattle.codes.specs.Bases.{no_word}
-use Rattle.books.specs.Books.{RowWord, row_symbol, row_word}
+use Rattle.books.specs.Books.{RowWord}
+use Rattle.books.specs.Rows.{row_symbol, row_word}
+use Rattle.books.specs.declared.book.Placed.{Placed}
 use Rattle.books.specs.declared.book.Row.{Row}
 
 abbrev clear : ℕ → List ℕ → List ℕ
@@ -63,54 +64,56 @@ first_symbol (x ∷ w) = elim (cases_eq x 0) [
 -- a row with these symbols
 abbrev row_of : (d s c x : ℕ) → Row
 row_of d s c x = record {
-  first_dot = d;
-  first_symbol = s;
-  second_dot = c;
-  second_symbol = x;
-  syndrome = no_word;
-  earlier = 0;
+  first = record { dot = d; symbol = s };
+  second = record { dot = c; symbol = x };
+  syndrome = record { symbols = [] };
+  earlier = None;
 }
 
+-- no symbol but 0
+abbrev pub unplaced : Placed
+unplaced = record { dot = 0; symbol = 0 }
+
 abbrev pub Single : Row → Type 0
-Single = Exactly 0 0 0 0
+Single = Exactly unplaced unplaced
 
 abbrev pub Listed : (n q t : ℕ) → Row → Type 0
 Listed n q zero r = ⊥
 Listed n q (suc zero) r = Single r
-Listed n q (suc (suc zero)) r = Single r ⊎ LastDots 0 0 n q r
-Listed n q (suc (suc (suc t))) r = (Single r ⊎ LastDots 0 0 n q r) ⊎ FirstDots n n q r
+Listed n q (suc (suc zero)) r = Single r ⊎ LastDots unplaced n q r
+Listed n q (suc (suc (suc t))) r = (Single r ⊎ LastDots unplaced n q r) ⊎ FirstDots n n q r
 
 -- a function with the symbols of r
-symbols_are : (r : Row) (f : ℕ → ℕ) → f 0 ≡ 1 → (r.first_dot ≢ 0 → f r.first_dot ≡ r.first_symbol) → (r.second_dot ≢ 0 → r.second_dot ≢ r.first_dot → f r.second_dot ≡ r.second_symbol) → ((i : ℕ) → i ≢ 0 → i ≢ r.first_dot → i ≢ r.second_dot → f i ≡ 0) → (i : ℕ) → f i ≡ row_symbol r i
+symbols_are : (r : Row) (f : ℕ → ℕ) → f 0 ≡ 1 → (r.first.dot ≢ 0 → f r.first.dot ≡ r.first.symbol) → (r.second.dot ≢ 0 → r.second.dot ≢ r.first.dot → f r.second.dot ≡ r.second.symbol) → ((i : ℕ) → i ≢ 0 → i ≢ r.first.dot → i ≢ r.second.dot → f i ≡ 0) → (i : ℕ) → f i ≡ row_symbol r i
 symbols_are r f at_zero at_first at_second elsewhere i = elim (cases_eq i 0) [
   | inl e ↦ ap f e ∙ at_zero ∙ sym (cond-true (eqb i 0) 1 _ (eq-eqb i 0 e))
-  | inr ne ↦ elim (cases_eq i r.first_dot) [
+  | inr ne ↦ elim (cases_eq i r.first.dot) [
     | inl e ↦
         ap f e ∙ at_first (λ z. ne (e ∙ z))
-        ∙ sym (cond-false (eqb i 0) 1 _ (ne_eqb i 0 ne) ∙ cond-true (eqb i r.first_dot) r.first_symbol _ (eq-eqb _ _ e))
-    | inr nf ↦ elim (cases_eq i r.second_dot) [
+        ∙ sym (cond-false (eqb i 0) 1 _ (ne_eqb i 0 ne) ∙ cond-true (eqb i r.first.dot) r.first.symbol _ (eq-eqb _ _ e))
+    | inr nf ↦ elim (cases_eq i r.second.dot) [
       | inl e ↦
           ap f e ∙ at_second (λ z. ne (e ∙ z)) (λ z. nf (e ∙ z))
-          ∙ sym (cond-false (eqb i 0) 1 _ (ne_eqb i 0 ne) ∙ cond-false (eqb i r.first_dot) r.first_symbol _ (ne_eqb _ _ nf) ∙ cond-true (eqb i r.second_dot) r.second_symbol 0 (eq-eqb _ _ e))
+          ∙ sym (cond-false (eqb i 0) 1 _ (ne_eqb i 0 ne) ∙ cond-false (eqb i r.first.dot) r.first.symbol _ (ne_eqb _ _ nf) ∙ cond-true (eqb i r.second.dot) r.second.symbol 0 (eq-eqb _ _ e))
       | inr ns ↦
           elsewhere i ne nf ns
-          ∙ sym (cond-false (eqb i 0) 1 _ (ne_eqb i 0 ne) ∙ cond-false (eqb i r.first_dot) r.first_symbol _ (ne_eqb _ _ nf) ∙ cond-false (eqb i r.second_dot) r.second_symbol 0 (ne_eqb _ _ ns))
+          ∙ sym (cond-false (eqb i 0) 1 _ (ne_eqb i 0 ne) ∙ cond-false (eqb i r.first.dot) r.first.symbol _ (ne_eqb _ _ nf) ∙ cond-false (eqb i r.second.dot) r.second.symbol 0 (ne_eqb _ _ ns))
     ]
   ]
 ]
 
-symbol_elsewhere : (r : Row) (i : ℕ) → i ≢ 0 → i ≢ r.first_dot → i ≢ r.second_dot → row_symbol r i ≡ 0
+symbol_elsewhere : (r : Row) (i : ℕ) → i ≢ 0 → i ≢ r.first.dot → i ≢ r.second.dot → row_symbol r i ≡ 0
 symbol_elsewhere r i ne nf ns =
-    cond-false (eqb i 0) 1 _ (ne_eqb i 0 ne) ∙ cond-false (eqb i r.first_dot) r.first_symbol _ (ne_eqb _ _ nf) ∙ cond-false (eqb i r.second_dot) r.second_symbol 0 (ne_eqb _ _ ns)
+    cond-false (eqb i 0) 1 _ (ne_eqb i 0 ne) ∙ cond-false (eqb i r.first.dot) r.first.symbol _ (ne_eqb _ _ nf) ∙ cond-false (eqb i r.second.dot) r.second.symbol 0 (ne_eqb _ _ ns)
 
 module _ (n : ℕ) (r : Row) where
-  at_elsewhere : (i : ℕ) → i ≢ 0 → i ≢ r.first_dot → i ≢ r.second_dot → at (row_word n r) i ≡ 0
+  at_elsewhere : (i : ℕ) → i ≢ 0 → i ≢ r.first.dot → i ≢ r.second.dot → at (row_word n r) i ≡ 0
   at_elsewhere i ne nf ns = elim (cases_lt i n) [
     | inl h ↦ at_tabulate n (row_symbol r) i h ∙ symbol_elsewhere r i ne nf ns
     | inr h ↦ at_tabulate_past n (row_symbol r) i h
   ]
 
-  weight_one : r.first_dot ≡ 0 → r.second_dot ≡ 0 → weight (row_word n r) ≤ 1
+  weight_one : r.first.dot ≡ 0 → r.second.dot ≡ 0 → weight (row_word n r) ≤ 1
   weight_one zf zs =
       omega (
         arith,
@@ -121,10 +124,10 @@ module _ (n : ℕ) (r : Row) where
         ]),
       )
 
-  weight_two : r.first_dot ≡ 0 → weight (row_word n r) ≤ 2
+  weight_two : r.first.dot ≡ 0 → weight (row_word n r) ≤ 2
   weight_two zf =
       let w = row_word n r in
-      let c = r.second_dot in
+      let c = r.second.dot in
       omega (
         arith,
         weight_clear_le c w,
@@ -141,8 +144,8 @@ module _ (n : ℕ) (r : Row) where
   weight_three : weight (row_word n r) ≤ 3
   weight_three =
       let w = row_word n r in
-      let c = r.second_dot in
-      let d = r.first_dot in
+      let c = r.second.dot in
+      let d = r.first.dot in
       omega (
         arith,
         weight_clear_le c w,
@@ -161,12 +164,12 @@ module _ (n : ℕ) (r : Row) where
       )
 
 module _ {k : Symbols} (laws : SumProductLaws k) (n : ℕ) (least : 1 ≤ n) where
-  row_word_lawful : (r : Row) → r.first_symbol < k.order → r.second_symbol < k.order → Lawful k n (row_word n r) × (at (row_word n r) 0 ≡ 1)
+  row_word_lawful : (r : Row) → r.first.symbol < k.order → r.second.symbol < k.order → Lawful k n (row_word n r) × (at (row_word n r) 0 ≡ 1)
   row_word_lawful r lf ls = (
     tabulate_lawful k n (row_symbol r) (λ d h.
         cond_both (eqb d 0) 1 _ (λ x. x < k.order) (λ _. omega (arith, laws.least)) (λ _.
-        cond_both (eqb d r.first_dot) r.first_symbol _ (λ x. x < k.order) (λ _. lf) (λ _.
-        cond_both (eqb d r.second_dot) r.second_symbol 0 (λ x. x < k.order) (λ _. ls) (λ _. omega (arith, laws.least))))),
+        cond_both (eqb d r.first.dot) r.first.symbol _ (λ x. x < k.order) (λ _. lf) (λ _.
+        cond_both (eqb d r.second.dot) r.second.symbol 0 (λ x. x < k.order) (λ _. ls) (λ _. omega (arith, laws.least))))),
     at_tabulate n (row_symbol r) 0 (omega arith),
   )
 
@@ -175,7 +178,7 @@ module _ {k : Symbols} (laws : SumProductLaws k) (n : ℕ) (least : 1 ≤ n) whe
       let (lawful, one) = row_word_lawful r (omega (arith, laws.least)) (omega (arith, laws.least)) in
       (lawful, one, omega (arith, weight_one n r zf zs))
 
-  two_row : (t : ℕ) (r : Row) → 2 ≤ t → LastDots 0 0 n k.order r → RowWord k n t (row_word n r)
+  two_row : (t : ℕ) (r : Row) → 2 ≤ t → LastDots unplaced n k.order r → RowWord k n t (row_word n r)
   two_row t r h (zf, sf, lc, cn, lx, xq) =
       let (lawful, one) = row_word_lawful r (omega (arith, laws.least)) xq in
       (lawful, one, omega (arith, weight_two n r zf))
@@ -206,7 +209,7 @@ listed_single n q (suc zero) r h s = s
 listed_single n q (suc (suc zero)) r h s = inl s
 listed_single n q (suc (suc (suc t))) r h s = inl (inl s)
 
-listed_two : (n q t : ℕ) (r : Row) → 2 ≤ t → LastDots 0 0 n q r → Listed n q t r
+listed_two : (n q t : ℕ) (r : Row) → 2 ≤ t → LastDots unplaced n q r → Listed n q t r
 listed_two n q zero r h s = absurd (omega arith)
 listed_two n q (suc zero) r h s = absurd (omega arith)
 listed_two n q (suc (suc zero)) r h s = inr s

@@ -1,5 +1,5 @@
 -- What fits of the turned syndromes say of the pattern.
-use Rattle.std.proofs.Common.{◌≡◌, ℕ, ◌+◌, ◌<◌, ◌≢◌, List, sym, ap, ◌∙◌, subst, inl, inr, add-one, arith}
+use Rattle.std.proofs.Common.{◌≡◌, ℕ, ◌+◌, ◌<◌, ◌≤◌, ◌≢◌, List, Some, None, Option, MatchOption, sym, ap, ◌∙◌, subst, inl, inr, add-one, arith}
 use Rattle.std.proofs.lemmas.Bool.{cases_eq}
 use Rattle.algebra.specs.Fields.{Symbols, SumProductLaws, FieldLaws}
 use Rattle.algebra.specs.Groups.{Dots, GroupLaws}
@@ -11,8 +11,10 @@ use Rattle.words.proofs.Turning.{turned_lawful}
 use Rattle.words.proofs.Turns.{nought_from_turns}
 use Rattle.books.specs.Fitting.{Fits, NoFit}
 use Rattle.codes.specs.GroupCodes.{Pattern, TooClose, TurnCount}
-use Rattle.books.specs.Books.{BookOf, row_at, row_word}
+use Rattle.books.specs.Books.{BookOf, row_at}
+use Rattle.books.specs.Rows.{row_word}
 use Rattle.books.specs.declared.book.Book.{Book}
+use Rattle.books.specs.declared.patterns.Found.{Found}
 use Rattle.books.proofs.Searching.{fit_from_pattern, pattern_from_fit, pattern_of_fit, syndrome_from_nought_pattern}
 
 pub turn_lawful : {k : Symbols} → SumProductLaws k → (g : Dots) (j : ℕ) (x y : Word) → Stores g.order y (turned g j (word g.order x)) → Lawful k g.order (word g.order x) → Lawful k g.order (word g.order y)
@@ -42,3 +44,12 @@ module _ {k : Symbols} (field : FieldLaws k) {g : Dots} (group : GroupLaws g) (e
       let pattern = subst (Pattern k g e t r) (sym is) (pattern_from_fit field group e le t r a j s (book.row_words i li) lj ls fit) in
       let first = (pattern_of_fit field group e le t r apart p a j s pattern (book.row_words i li) lj ls fit).1 in
       (pattern, subst (TurnCount g p) (sym (add-one j)) (lj, (λ z. nz (sym first ∙ z)), λ m lm. zero_without_fit p m pattern (omega arith) (before m lm)))
+
+  -- what a search over the turns 0, 1, .. below m says
+  pub pattern_found : (TooClose k g e t → ⊥) → y ≢ nought g.order → (o : Option Found) (m : ℕ) → m ≡ g.order
+      → MatchOption o ((j : ℕ) → 0 ≤ j → j < m → NoFit k g e b (turned g j y)) (λ x. (j : ℕ) × (0 ≤ j) × (j < m) × ((x.turns ≡ j + 1) × ((s : ℕ) × (s < k.order) × (s ≢ 0) × ((i : ℕ) × Fits k g e b (turned g j y) s i × Stores g.order x.pattern (turned g (g.inverse j) (scaled k g.order s (row_word g.order (row_at b i))))))) × ((l : ℕ) → 0 ≤ l → l < j → NoFit k g e b (turned g l y)))
+      → MatchOption o ((p : List ℕ) → Pattern k g e t r p → ⊥) (λ x. Pattern k g e t r (word g.order x.pattern) × TurnCount g (word g.order x.pattern) x.turns × ((d : ℕ) → g.order ≤ d → at x.pattern.symbols d ≡ 0))
+  pattern_found apart other None m end none = no_pattern other (λ j lj. none j (omega arith) (omega arith))
+  pattern_found apart other (Some x) m end (j, _, hi, (turns, (s, ls, nz, (i, fit, stored))), before) =
+      let found = found_pattern apart j s i (omega arith) ls nz fit (λ l ll. before l (omega arith) ll) (word g.order x.pattern) stored.value in
+      (found.0, rw turns found.1, stored.rest)

@@ -6,6 +6,7 @@ pub mod FewSymbols
 pub mod FitRows
 pub mod FoundPatterns
 pub mod LightWords
+pub mod Ranges
 pub mod RowCounts
 pub mod Rows
 pub mod Searching

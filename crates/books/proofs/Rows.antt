@@ -3,7 +3,7 @@ use Rattle.std.proofs.Common.{◌≡◌, ℕ, ◌<◌, ◌≢◌, List, length, 
 use Rattle.algebra.specs.Fields.{Symbols, FieldLaws}
 use Rattle.algebra.specs.Groups.{Dots, GroupLaws}
 use Rattle.words.specs.Words.{at, Lawful, nought, scaled, turned, weight, syndrome}
-use Rattle.words.proofs.Fields.{zero_product}
+use Rattle.algebra.proofs.SumProducts.{zero_product}
 use Rattle.words.proofs.Groups.{identity_below}
 use Rattle.words.proofs.Linear.{at_nought, at_scaled, scaled_lawful, syndrome_scaled}
 use Rattle.words.proofs.Turning.{turned_lawful, turned_back, syndrome_turned}

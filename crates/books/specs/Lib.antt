@@ -1,3 +1,4 @@
 pub mod Adding
 pub mod Books
 pub mod Fitting
+pub mod Rows

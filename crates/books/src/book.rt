@@ -1,5 +1,7 @@
 // The book of a code: the words of weight at most t with symbol 1 at dot 0, each with its syndrome.
-ghost use Rattle.std.specs.Prelude.{◌≤◌};
+ghost use Rattle.std.specs.Prelude.{ℕ, ◌<◌, ◌≤◌, None, slice_index_or};
+ghost use Rattle.std.proofs.Props.{props};
+ghost use Rattle.books.specs.Rows.{LastBefore, bucket, row_of};
 
 mod build;
 mod count;
@@ -10,21 +12,31 @@ mod row_words;
 pub use count::row_count;
 use words::Word;
 
-// The word with 1 at dot 0 and two more symbols, of which each may be 0.
-#[derive(Clone, Copy)]
-pub struct Row {
-    pub first_dot: u8,
-    pub first_symbol: u8,
-    pub second_dot: u8,
-    pub second_symbol: u8,
-    pub syndrome: Word,
-    pub earlier: u16,
+// A symbol at a dot.
+#[derive(Clone, Copy, PartialEq, Eq, Debug)]
+pub struct Placed {
+    pub dot: u8,
+    pub symbol: u8,
 }
 
+// The word with 1 at dot 0 and two more symbols, of which each may be 0.
+#[derive(Clone, Copy, PartialEq, Eq, Debug)]
+pub struct Row {
+    pub first: Placed,
+    pub second: Placed,
+    pub syndrome: Word,
+    // The last row before it in its bucket.
+    pub earlier: Option<u16>,
+}
+
+// The rows below count, and the last row of each bucket.
+// Not each book is that of a code: it may be half filled, or cut short at 4096 rows. So that it is one is a premise of what its methods promise, and no part of the type.
 #[derive(Clone, Copy)]
 pub struct Book {
     pub rows: [Row; 4096],
     pub count: usize,
-    pub heads: [u16; 1024],
+    pub heads: [Option<u16>; 1024],
     ghost most: { count ≤ 4096 },
+    ghost last: { (h : ℕ) → h < 1024 → LastBefore rows count h (slice_index_or heads h None) } by { Prim.hlevel props },
+    ghost linked: { (i : ℕ) → i < count → LastBefore rows i (bucket (row_of rows i).syndrome) (row_of rows i).earlier } by { Prim.hlevel props },
 }

@@ -6,6 +6,5 @@ mod closeness;
 mod fits;
 mod patterns;
 
-pub use book::{Book, Row, row_count};
-pub use closeness::too_close;
-pub use patterns::{Found, find_pattern};
+pub use book::{Book, Placed, Row, row_count};
+pub use patterns::Found;

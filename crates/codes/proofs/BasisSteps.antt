@@ -6,7 +6,7 @@ use Rattle.std.proofs.lemmas.Bool.{cond-true, cond-false, cond_both}
 use Rattle.algebra.specs.Fields.{Symbols, SumProductLaws}
 use Rattle.algebra.specs.Groups.{Dots}
 use Rattle.words.specs.Words.{at, tabulate, total, Lawful, nought, plus, less, scaled}
-use Rattle.words.proofs.Fields.{zero_below, sum_opposite_cancels, product_zero}
+use Rattle.algebra.proofs.SumProducts.{zero_below, sum_opposite_cancels, product_zero}
 use Rattle.words.proofs.Tabulate.{at_tabulate, tabulate_ext}
 use Rattle.words.proofs.Totals.{total_zero, field_adds, total_below}
 use Rattle.words.proofs.Linear.{at_less, at_scaled, tabulate_lawful, scaled_lawful}

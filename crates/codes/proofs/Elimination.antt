@@ -5,7 +5,7 @@ use Rattle.std.proofs.lemmas.Bool.{cases_eq, cases_lt}
 use Rattle.algebra.specs.Fields.{Symbols, SumProductLaws}
 use Rattle.algebra.specs.Groups.{Dots}
 use Rattle.words.specs.Words.{at, Lawful, nought, plus, less, scaled, Keeps}
-use Rattle.words.proofs.Fields.{zero_below, sum_opposite_cancels, product_zero, zero_product}
+use Rattle.algebra.proofs.SumProducts.{zero_below, sum_opposite_cancels, product_zero, zero_product}
 use Rattle.words.proofs.Linear.{at_less, at_scaled, lawful_at, less_lawful, scaled_lawful, plus_associative, less_self, plus_less}
 use Rattle.words.proofs.Weights.{scaled_back}
 use Rattle.words.proofs.CodeWords.{less_keeps, scaled_keeps}

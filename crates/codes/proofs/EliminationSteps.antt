@@ -1,81 +1,129 @@
 -- The steps of the elimination as the program makes them.
 --     Clearing k n p b s d t     t is s with the words of the pivots below d cleared
---     ListedBelow n s d ws ds m  the words ws and the dots ds begin with the m pivots of s below d
-use Rattle.std.proofs.Common.{◌≡◌, ℕ, zero, suc, ◌+◌, ◌<◌, ◌≤◌, true, false, cond, eqb, ◌≢◌, List, [], ◌∷◌, ◌++◌, length, get_or, take, set, replicate, Some, None, sym, refl, ap, ◌∙◌, subst, inl, inr, arith}
-use Rattle.std.proofs.lemmas.List.{get_or-set_same, get_or-set_other, length-set, length_push, take_more_set, get_or-take}
+--     ClearedRow k n p b r q     the row q holds the word of r cleared, or none as r does
+--     SpansTurns k g e js s      s is reduced, and the turns of e by the dots js are within s
+--     ListedBelow n s d rows m   the rows begin with the m pivots of s below d
+use Rattle.std.proofs.Common.{◌≡◌, ℕ, zero, suc, ◌+◌, ◌<◌, ◌≤◌, true, false, cond, eqb, ◌≢◌, List, [], ◌∷◌, ◌++◌, map, length, get_or, take, set, replicate, Option, Some, None, MatchOption, is_some, unwrap_or, sym, refl, ap, ◌∙◌, subst, ap₂, inl, inr, zero-add, arith}
+use Rattle.std.proofs.lemmas.List.{get_or-map, get_or_append_left, get_or_push, get_or-set_same, get_or-set_other, get_or-take, length-map, length-set, length-take, length_push, map-append, take_more_set}
+use Rattle.std.proofs.lemmas.List.FromFn.{get_or-range_with_len, length-range_with_len}
+use Rattle.std.specs.List.{range_with_len}
 use Rattle.std.proofs.lemmas.Bool.{both_ways, cases_eq, cond-true, cond-false, eq-eqb, ne_eqb}
 use Rattle.algebra.specs.Checks.{FirstWithout}
 use Rattle.algebra.specs.Fields.{Symbols, SumProductLaws, FieldLaws}
-use Rattle.algebra.specs.Groups.{Dots}
+use Rattle.algebra.specs.Groups.{Dots, GroupLaws}
 use Rattle.words.specs.Stored.{Stores, word}
-use Rattle.words.specs.Words.{at, Lawful, nought, scaled, turned, Keeps}
+use Rattle.words.specs.Words.{at, Lawful, nought, less, scaled, turned, Keeps}
 use Rattle.words.specs.declared.word.Word.{Word}
 use Rattle.words.proofs.Linear.{at_nought}
-use Rattle.words.proofs.Tabulate.{tabulate_ext}
-use Rattle.words.proofs.Turning.{turned_lawful}
+use Rattle.words.proofs.Stored.{at_word, zero_stores}
+use Rattle.words.proofs.Turning.{turned_keeps, turned_lawful}
 use Rattle.codes.specs.Eliminations.{Absorbs, Extended, Listed, Reduced, Spans, Within, cleared, pivot_at, pivots, residual, word_at}
 use Rattle.codes.specs.GroupCodes.{Leads, MessageDots}
-use Rattle.codes.specs.Bases.{BasisOf, basis_dots, no_word}
+use Rattle.codes.specs.Bases.{BasisOf, basis_dots, no_row, no_word}
 use Rattle.codes.specs.declared.basis.Basis.{Basis}
+use Rattle.codes.specs.declared.basis.BasisRow.{BasisRow}
 use Rattle.codes.specs.declared.basis.elimination.Elimination.{Elimination}
+use Rattle.codes.proofs.BasisSteps.{residual_below, residual_below_more, residual_below_skip}
 use Rattle.codes.proofs.Elimination.{extended_reduced, residual_extended_nought, new_row, residual_extended_by}
 use Rattle.codes.proofs.MessageWords.{pivots_are_message_dots}
 use Rattle.codes.proofs.PivotLists.{pivots_more, pivots_skip, pivots_none, pivots_listed}
 use Rattle.codes.proofs.Residuals.{reduced_without_pivots, residual_lawful}
 
+-- the word of n symbols that a row of the elimination holds, or zeros
+abbrev pub row_word : ℕ → Option Word → List ℕ
+row_word n r = word n (unwrap_or r no_word)
+
+-- a row among the first n
+pub row_read : (rows : List (Option Word)) (n d : ℕ) → d < length (take n rows) → (d < n) × (get_or rows d None ≡ get_or (take n rows) d None)
+row_read rows n d h =
+    let below : d < n = omega (arith, length-take n rows) in (below, sym (get_or-take n rows d None below))
+
+abbrev row_dot : BasisRow → ℕ
+row_dot r = r.dot
+
+pub get_or-basis_dots : (b : Basis) → length (basis_dots b) ≡ b.count → (i : ℕ) → i < b.count → get_or (basis_dots b) i 0 ≡ (get_or b.rows i no_row).dot
+get_or-basis_dots b many i h =
+    get_or-map row_dot (take b.count b.rows) i no_row 0 (omega (arith, many, length-map (take b.count b.rows) row_dot)) ∙ ap row_dot (get_or-take b.count b.rows i no_row h)
+
 pub record Clearing (k : Symbols) (n p : ℕ) (b : List ℕ) (s : Elimination) (d : ℕ) (t : Elimination) : Type 0 where
-  pub most : n ≤ 64
-  pub many : length t.words ≡ 64
-  pub pivots : t.pivots ≡ s.pivots
+  pub many : length t.rows ≡ length s.rows
+  pub pivots : (i : ℕ) → pivot_at t i ≡ pivot_at s i
   pub below : (i : ℕ) → i < d → pivot_at s i ≡ true → word_at n t i ≡ cleared k n p b (word_at n s i)
   pub rest : (i : ℕ) → d ≤ i → word_at n t i ≡ word_at n s i
 
+-- a turn of the loop over the rows of s, at a pivot and elsewhere: u is left before it, and v after it
+module _ {k : Symbols} (laws : SumProductLaws k) {g : Dots} {e : List ℕ} (s : Elimination) (reduced : Reduced k g e (pivot_at s) (word_at g.order s)) (w : List ℕ) (lw : Lawful k g.order w) (d : ℕ) (u v : List ℕ) (left : u ≡ residual_below k g.order (pivot_at s) (word_at g.order s) w d) where
+  pub residual_taken : d < g.order → (b : Word) → get_or s.rows d None ≡ Some b → v ≡ cleared k g.order d (word g.order b) u → v ≡ residual_below k g.order (pivot_at s) (word_at g.order s) w (d + 1)
+  residual_taken h b is same =
+      same
+      ∙ ap₂ (cleared k g.order d) (sym (ap (row_word g.order) is)) left
+      ∙ sym (residual_below_more laws reduced w lw d h (ap is_some is))
+
+  pub residual_kept : get_or s.rows d None ≡ None → v ≡ u → v ≡ residual_below k g.order (pivot_at s) (word_at g.order s) w (d + 1)
+  residual_kept none same = same ∙ left ∙ sym (residual_below_skip laws g.order (pivot_at s) (word_at g.order s) w d (ap is_some none))
+
+-- what clearing at p makes of a row
+abbrev pub ClearedRow : Symbols → ℕ → ℕ → List ℕ → Option Word → Option Word → Type 0
+ClearedRow k n p b r q = MatchOption r (q ≡ None) (λ u. (w : Word) × (q ≡ Some w) × Stores n w (cleared k n p b (word n u)))
+
+cleared_row_pivot : (k : Symbols) (n p : ℕ) (b : List ℕ) (r q : Option Word) → ClearedRow k n p b r q → is_some q ≡ is_some r
+cleared_row_pivot k n p b None q h = ap is_some h
+cleared_row_pivot k n p b (Some u) q h = ap is_some h.1
+
+cleared_row_word : (k : Symbols) (n p : ℕ) (b : List ℕ) (r q : Option Word) → ClearedRow k n p b r q → is_some r ≡ true → row_word n q ≡ cleared k n p b (row_word n r)
+cleared_row_word k n p b None q h some = absurd (both_ways false refl some)
+cleared_row_word k n p b (Some u) q h _ = ap (row_word n) h.1 ∙ h.2.value
+
+row_here : (rows : List (Option Word)) (d : ℕ) (q : Option Word) → d < length rows → get_or (set rows d q) d None ≡ q
+row_here rows d q h = get_or-set_same rows d q None h
+
+row_other : (rows : List (Option Word)) (d i : ℕ) (q : Option Word) → i ≢ d → get_or (set rows d q) i None ≡ get_or rows i None
+row_other rows d i q ne = get_or-set_other rows d i q None ne
+
 module _ (k : Symbols) (n p : ℕ) (b : List ℕ) (s : Elimination) where
-  pub clearing_none : n ≤ 64 → length s.words ≡ 64 → Clearing k n p b s 0 s
-  clearing_none most many = record { most = most; many = many; pivots = refl; below = λ i h _. absurd (omega arith); rest = λ i _. refl }
+  pub clearing_none : Clearing k n p b s 0 s
+  clearing_none = record { many = refl; pivots = λ i. refl; below = λ i h _. absurd (omega arith); rest = λ i _. refl }
 
-  pub clearing_skip : (d : ℕ) (t : Elimination) → pivot_at s d ≡ false → Clearing k n p b s d t → Clearing k n p b s (d + 1) t
-  clearing_skip d t q c = record {
-    most = c.most;
-    many = c.many;
-    pivots = c.pivots;
-    below = λ i h r. elim (cases_eq i d) [
-      | inl e ↦ absurd (both_ways (pivot_at s d) q (sym (ap (pivot_at s) e) ∙ r))
-      | inr ne ↦ c.below i (omega arith) r
+  pub clearing_more : (d : ℕ) (t : Elimination) (q : Option Word) → d < length t.rows → ClearedRow k n p b (get_or t.rows d None) q → Clearing k n p b s d t → Clearing k n p b s (d + 1) (record { rows = set t.rows d q })
+  clearing_more d t q h row c = record {
+    many = length-set t.rows d q ∙ c.many;
+    pivots = λ i. elim (cases_eq i d) [
+      | inl e ↦
+          subst (λ j. pivot_at (record { rows = set t.rows d q }) j ≡ pivot_at s j) (sym e)
+          (ap is_some (row_here t.rows d q h) ∙ cleared_row_pivot k n p b (get_or t.rows d None) q row ∙ c.pivots d)
+      | inr ne ↦ ap is_some (row_other t.rows d i q ne) ∙ c.pivots i
     ];
-    rest = λ i h. c.rest i (omega arith);
-  }
-
-  pub clearing_more : (d : ℕ) (t : Elimination) (w : Word) → d < n → Clearing k n p b s d t → Stores n w (cleared k n p b (word_at n t d)) → Clearing k n p b s (d + 1) (record { pivots = t.pivots; words = set t.words d w })
-  clearing_more d t w h c new = record {
-    most = c.most;
-    many = length-set t.words d w ∙ c.many;
-    pivots = c.pivots;
     below = λ i l r. elim (cases_eq i d) [
       | inl e ↦
-          subst (λ j. word n (get_or (set t.words d w) j no_word) ≡ cleared k n p b (word_at n s j)) (sym e)
-          (ap (word n) (get_or-set_same t.words d w no_word (omega (arith, c.many, c.most))) ∙ new.value ∙ ap (cleared k n p b) (c.rest d (omega arith)))
-      | inr ne ↦ ap (word n) (get_or-set_other t.words d i w no_word ne) ∙ c.below i (omega arith) r
+          subst (λ j. word_at n (record { rows = set t.rows d q }) j ≡ cleared k n p b (word_at n s j)) (sym e)
+          (ap (row_word n) (row_here t.rows d q h)
+          ∙ cleared_row_word k n p b (get_or t.rows d None) q row (c.pivots d ∙ sym (ap (pivot_at s) e) ∙ r)
+          ∙ ap (cleared k n p b) (c.rest d (omega arith)))
+      | inr ne ↦ ap (row_word n) (row_other t.rows d i q ne) ∙ c.below i (omega arith) r
     ];
-    rest = λ i l. ap (word n) (get_or-set_other t.words d i w no_word (λ e. omega arith)) ∙ c.rest i (omega arith);
+    rest = λ i l. ap (row_word n) (row_other t.rows d i q (λ e. omega arith)) ∙ c.rest i (omega arith);
   }
 
-  pub extended_from_clearing : (t : Elimination) (w : Word) → p < n → length s.pivots ≡ 64 → word n w ≡ b → Clearing k n p b s n t → Extended k n (pivot_at s) (word_at n s) p b (pivot_at (record { pivots = set t.pivots p true; words = set t.words p w })) (word_at n (record { pivots = set t.pivots p true; words = set t.words p w }))
-  extended_from_clearing t w lp many e c = record {
-    pivot_here = get_or-set_same t.pivots p true false (omega (arith, ap length c.pivots, c.most));
-    pivots_other = λ d h ne. get_or-set_other t.pivots p d true false ne ∙ ap (λ ps. get_or ps d false) c.pivots;
-    word_here = ap (word n) (get_or-set_same t.words p w no_word (omega (arith, c.many, c.most))) ∙ e;
-    words_other = λ d h q ne. ap (word n) (get_or-set_other t.words p d w no_word ne) ∙ c.below d h q;
+  pub extended_from_clearing : (d : ℕ) (t : Elimination) (w : Word) → p < length t.rows → n ≤ d → word n w ≡ b → Clearing k n p b s d t → Extended k n (pivot_at s) (word_at n s) p b (pivot_at (record { rows = set t.rows p (Some w) })) (word_at n (record { rows = set t.rows p (Some w) }))
+  extended_from_clearing d t w lp all e c = record {
+    pivot_here = ap is_some (row_here t.rows p (Some w) lp);
+    pivots_other = λ i h ne. ap is_some (row_other t.rows p i (Some w) ne) ∙ c.pivots i;
+    word_here = ap (row_word n) (row_here t.rows p (Some w) lp) ∙ e;
+    words_other = λ i h q ne. ap (row_word n) (row_other t.rows p i (Some w) ne) ∙ c.below i (omega arith) q;
   }
 
-pub word_zero : (n : ℕ) (w : Word) → n ≤ 64 → w.symbols ≡ nought 64 → word n w ≡ nought n
-unfolding nought
-word_zero n w h e = tabulate_ext n _ _ (λ d l. ap (λ ss. at ss d) e ∙ at_nought 64 d (omega arith))
+-- u less b scaled by the symbol of u at p, where that symbol is a
+pub stores_cleared : (k : Symbols) (n p a : ℕ) (b u share r : Word) → p < n → a ≡ at u.symbols p → Stores n share (scaled k n a (word n b)) → Stores n r (less k n (word n u) (word n share)) → Stores n r (cleared k n p (word n b) (word n u))
+stores_cleared k n p a b u share r h is s l = record {
+  value = l.value ∙ ap (less k n (word n u)) (s.value ∙ ap (λ x. scaled k n x (word n b)) (is ∙ at_word n u p h));
+  rest = l.rest;
+}
 
 -- the first dot at which a word differs from the zero word leads it
-pub leads_from_difference : (n : ℕ) (u z : List ℕ) (p : ℕ) → p < n → z ≡ nought n → FirstWithout (λ d. at u d ≡ at z d) p → Leads u p
-leads_from_difference n u z p h e (differs, before) =
-    (λ zero_here. differs (zero_here ∙ sym (ap (λ v. at v p) e ∙ at_nought n p h)), λ i l. before i l ∙ ap (λ v. at v i) e ∙ at_nought n i (omega arith))
+pub leads_from_difference : (n : ℕ) (u : List ℕ) (z : Word) (p : ℕ) → z.symbols ≡ nought 64 → p < n → FirstWithout (λ d. at u d ≡ at (word n z) d) p → Leads u p
+leads_from_difference n u z p is h (differs, before) =
+    let zero_at : (d : ℕ) → d < n → at (word n z) d ≡ 0 = λ d l. ap (λ v. at v d) (zero_stores n z is).value ∙ at_nought n d l in
+    (λ zero_here. differs (zero_here ∙ sym (zero_at p h)), λ i l. before i l ∙ zero_at i (omega arith))
 
 inverse_found : {k : Symbols} → FieldLaws k → (x a : ℕ) → x < k.order → x ≢ 0 → k.inverse x ≡ Some a → (a < k.order) × (k.product x a ≡ 1)
 inverse_found laws x a lx ne found =
@@ -110,84 +158,108 @@ module _ {k : Symbols} (laws : FieldLaws k) {g : Dots} {e : List ℕ} (le : Lawf
           still = residual_extended_nought laws.sums reduced new extended' le;
         }
 
-no_pivots : (m d : ℕ) → get_or (replicate m false) d false ≡ false
+no_pivots : (m d : ℕ) → pivot_at (record { rows = replicate m None }) d ≡ false
 no_pivots zero d = refl
 no_pivots (suc m) zero = refl
 no_pivots (suc m) (suc d) = no_pivots m d
 
-pub spans_none : (k : Symbols) (g : Dots) (e : List ℕ) (ws : List Word) → Spans k g e 0 (record { pivots = replicate 64 false; words = ws })
-spans_none k g e ws = record {
+pub record SpansTurns (k : Symbols) (g : Dots) (e js : List ℕ) (s : Elimination) : Type 0 where
+  pub reduced : Reduced k g e (pivot_at s) (word_at g.order s)
+  pub turns : (i : ℕ) → i < length js → Within k g.order s (turned g (get_or js i 0) e)
+
+-- the same, where the numbers js are dots
+abbrev pub SpansDots : Symbols → Dots → List ℕ → List ℕ → Elimination → Type 0
+SpansDots k g e js s = ((i : ℕ) → i < length js → get_or js i 0 < g.order) → SpansTurns k g e js s
+
+pub spans_none : (k : Symbols) (g : Dots) (e : List ℕ) → SpansDots k g e [] (record { rows = replicate 64 None })
+spans_none k g e _ = record {
   reduced = reduced_without_pivots k g e _ _ (λ d _. no_pivots 64 d);
-  turns = λ j h. absurd (omega arith);
+  turns = λ i h. absurd (omega arith);
 }
 
-pub spans_more : {k : Symbols} → SumProductLaws k → (g : Dots) (e : List ℕ) → Lawful k g.order e → (j : ℕ) (s t : Elimination) → Spans k g e j s → Absorbs k g e s (turned g j e) t → Spans k g e (j + 1) t
-spans_more {k} laws g e le j s t spans absorbs = record {
-  reduced = absorbs.reduced;
-  turns = λ i h. elim (cases_eq i j) [
-    | inl same ↦ subst (λ x. Within k g.order t (turned g x e)) (sym same) absorbs.absorbed
-    | inr ne ↦ absorbs.still (turned g i e) (turned_lawful laws g i e le) (spans.turns i (omega arith))
-  ];
-}
+pub spans_more : {k : Symbols} → SumProductLaws k → {g : Dots} → GroupLaws g → (e : List ℕ) → Lawful k g.order e → Keeps k g e e → (js : List ℕ) (j : ℕ) (s t : Elimination) (u : Word) → SpansDots k g e js s → Stores g.order u (turned g j e) → ((d : List ℕ) → Lawful k g.order d → Reduced k g d (pivot_at s) (word_at g.order s) → Keeps k g d (word g.order u) → Absorbs k g d s (word g.order u) t) → SpansDots k g e (js ++ j ∷ []) t
+spans_more {k} laws {g} group e le ke js j s t u before turn absorbs dots =
+    let many = length_push js j in
+    let old = before (λ i h. subst (λ x. x < g.order) (get_or_append_left js (j ∷ []) 0 i h) (dots i (omega arith))) in
+    let here = get_or_push js j 0 (length js) refl in
+    let below : j < g.order = subst (λ x. x < g.order) here (dots (length js) (omega arith)) in
+    let absorbed = subst (λ w. Absorbs k g e s w t) turn.value (absorbs e le old.reduced (subst (Keeps k g e) (sym turn.value) (turned_keeps laws group e j e below ke))) in
+    record {
+      reduced = absorbed.reduced;
+      turns = λ i h. elim (cases_eq i (length js)) [
+        | inl same ↦ subst (λ x. Within k g.order t (turned g x e)) (sym (ap (λ x. get_or (js ++ j ∷ []) x 0) same ∙ here)) absorbed.absorbed
+        | inr ne ↦
+            let l : i < length js = omega arith in
+            subst (λ x. Within k g.order t (turned g x e)) (sym (get_or_append_left js (j ∷ []) 0 i l))
+            (absorbed.still (turned g (get_or js i 0) e) (turned_lawful laws g (get_or js i 0) e le) (old.turns i l))
+      ];
+    }
 
-pub record ListedBelow (n : ℕ) (s : Elimination) (d : ℕ) (ws : List Word) (ds : List ℕ) (m : ℕ) : Type 0 where
-  pub most : n ≤ 64
+pub spans_all : (k : Symbols) (g : Dots) (e : List ℕ) (s : Elimination) → SpansDots k g e (range_with_len 0 g.order) s → Spans k g e g.order s
+spans_all k g e s spans =
+    let at_dot : (i : ℕ) → i < g.order → get_or (range_with_len 0 g.order) i 0 ≡ i = λ i h. get_or-range_with_len 0 g.order i 0 h ∙ zero-add i in
+    let many = length-range_with_len 0 g.order in
+    let all = spans (λ i h. let l : i < g.order = omega arith in subst (λ x. x < g.order) (sym (at_dot i l)) l) in
+    record {
+      reduced = all.reduced;
+      turns = λ j h. subst (λ x. Within k g.order s (turned g x e)) (at_dot j h) (all.turns j (omega arith));
+    }
+
+pub record ListedBelow (n : ℕ) (s : Elimination) (d : ℕ) (rows : List BasisRow) (m : ℕ) : Type 0 where
   pub few : m ≤ d
-  pub many_words : length ws ≡ 64
-  pub many_dots : length ds ≡ 64
+  pub many : length rows ≡ 64
   pub count : m ≡ length (pivots d (pivot_at s))
-  pub dots : take m ds ≡ pivots d (pivot_at s)
-  pub words : (i : ℕ) → i < m → word n (get_or ws i no_word) ≡ word_at n s (get_or ds i 0)
+  pub dots : map row_dot (take m rows) ≡ pivots d (pivot_at s)
+  pub words : (i : ℕ) → i < m → word n (get_or rows i no_row).word ≡ word_at n s (get_or rows i no_row).dot
 
 module _ (n : ℕ) (s : Elimination) where
-  pub listed_none : (ws : List Word) (ds : List ℕ) → n ≤ 64 → length ws ≡ 64 → length ds ≡ 64 → ListedBelow n s 0 ws ds 0
-  listed_none ws ds most lw ld = record {
-    most = most;
+  pub listed_none : (rows : List BasisRow) → length rows ≡ 64 → ListedBelow n s 0 rows 0
+  listed_none rows many = record {
     few = omega arith;
-    many_words = lw;
-    many_dots = ld;
+    many = many;
     count = sym (ap length (pivots_none (pivot_at s)));
     dots = sym (pivots_none (pivot_at s));
     words = λ i h. absurd (omega arith);
   }
 
-  pub listed_same : (d : ℕ) (ws vs : List Word) (ds es : List ℕ) (m l : ℕ) → vs ≡ ws → es ≡ ds → l ≡ m → ListedBelow n s d ws ds m → ListedBelow n s d vs es l
-  listed_same d ws vs ds es m l p q r h =
-      subst (λ x. ListedBelow n s d x es l) (sym p) (subst (λ x. ListedBelow n s d ws x l) (sym q) (subst (ListedBelow n s d ws ds) (sym r) h))
+  pub listed_same : (d : ℕ) (rows others : List BasisRow) (m l : ℕ) → others ≡ rows → l ≡ m → ListedBelow n s d rows m → ListedBelow n s d others l
+  listed_same d rows others m l p q h = subst (λ x. ListedBelow n s d x l) (sym p) (subst (ListedBelow n s d rows) (sym q) h)
 
-  pub listed_skip : (d : ℕ) (ws : List Word) (ds : List ℕ) (m : ℕ) → pivot_at s d ≡ false → ListedBelow n s d ws ds m → ListedBelow n s (d + 1) ws ds m
-  listed_skip d ws ds m q l = let e = sym (pivots_skip (pivot_at s) d q) in record {
-    most = l.most;
+  pub listed_skip : (d : ℕ) (rows : List BasisRow) (m : ℕ) → get_or s.rows d None ≡ None → ListedBelow n s d rows m → ListedBelow n s (d + 1) rows m
+  listed_skip d rows m none l = let e = sym (pivots_skip (pivot_at s) d (ap is_some none)) in record {
     few = omega arith;
-    many_words = l.many_words;
-    many_dots = l.many_dots;
+    many = l.many;
     count = l.count ∙ ap length e;
     dots = l.dots ∙ e;
     words = l.words;
   }
 
-  pub listed_more : (d : ℕ) (ws : List Word) (ds : List ℕ) (m : ℕ) (w : Word) → d < 64 → pivot_at s d ≡ true → word n w ≡ word_at n s d → ListedBelow n s d ws ds m → ListedBelow n s (d + 1) (set ws m w) (set ds m d) (m + 1)
-  listed_more d ws ds m w h q e l =
-      let more = pivots_more (pivot_at s) d q in record {
-        most = l.most;
+  pub listed_more : (d : ℕ) (rows : List BasisRow) (m : ℕ) (w : Word) → d < 64 → get_or s.rows d None ≡ Some w → ListedBelow n s d rows m → ListedBelow n s (d + 1) (set rows m (record { dot = d; word = w })) (m + 1)
+  listed_more d rows m w h is l =
+      let more = pivots_more (pivot_at s) d (ap is_some is) in
+      let new : BasisRow = record { dot = d; word = w } in record {
         few = omega arith;
-        many_words = length-set ws m w ∙ l.many_words;
-        many_dots = length-set ds m d ∙ l.many_dots;
+        many = length-set rows m new ∙ l.many;
         count = omega (arith, l.count, ap length more, length_push (pivots d (pivot_at s)) d);
-        dots = take_more_set ds m d (omega (arith, l.many_dots)) ∙ ap (λ t. t ++ d ∷ []) l.dots ∙ sym more;
+        dots =
+            ap (map row_dot) (take_more_set rows m new (omega (arith, l.many)))
+            ∙ map-append row_dot (take m rows) (new ∷ [])
+            ∙ ap (λ t. t ++ d ∷ []) l.dots
+            ∙ sym more;
         words = λ i li. elim (cases_eq i m) [
           | inl same ↦
-              subst (λ j. word n (get_or (set ws m w) j no_word) ≡ word_at n s (get_or (set ds m d) j 0)) (sym same)
-              (ap (word n) (get_or-set_same ws m w no_word (omega (arith, l.many_words))) ∙ e ∙ ap (word_at n s) (sym (get_or-set_same ds m d 0 (omega (arith, l.many_dots)))))
-          | inr ne ↦ ap (word n) (get_or-set_other ws m i w no_word ne) ∙ l.words i (omega arith) ∙ ap (word_at n s) (sym (get_or-set_other ds m i d 0 ne))
+              subst (λ j. word n (get_or (set rows m new) j no_row).word ≡ word_at n s (get_or (set rows m new) j no_row).dot) (sym same)
+              (subst (λ (r : BasisRow). word n r.word ≡ word_at n s r.dot) (sym (get_or-set_same rows m new no_row (omega (arith, l.many)))) (sym (ap (row_word n) is)))
+          | inr ne ↦
+              subst (λ (r : BasisRow). word n r.word ≡ word_at n s r.dot) (sym (get_or-set_other rows m i new no_row ne)) (l.words i (omega arith))
         ];
       }
 
-  pub listed_all : (d : ℕ) (b : Basis) → d ≡ n → ListedBelow n s d b.words b.dots b.count → Listed n s b
+  pub listed_all : (d : ℕ) (b : Basis) → d ≡ n → ListedBelow n s d b.rows b.count → Listed n s b
   listed_all d b end l = let e = ap (λ m. pivots m (pivot_at s)) end in record {
     dots = l.dots ∙ e;
     count = l.count ∙ ap length e;
-    words = λ i h. l.words i h ∙ ap (word_at n s) (sym (get_or-take b.count b.dots i 0 h));
+    words = λ i h. l.words i h ∙ ap (word_at n s) (sym (get_or-basis_dots b (ap length l.dots ∙ sym l.count) i h));
   }
 
 abbrev dot : Basis → ℕ → ℕ

@@ -1,26 +1,28 @@
 -- The symbols at the message dots: they tell code words apart, and a basis makes the code word of each message.
---     Written k n b m i mark   mark holds the sum, over the message dots before the i-th, of m's symbol times the word of the basis b
-use Rattle.std.proofs.Common.{◌≡◌, ℕ, zero, suc, ◌+◌, ◌<◌, ◌≤◌, true, eqb, ◌⊎◌, List, length, get_or, sym, refl, ap, ◌∙◌, subst, inl, inr, arith}
-use Rattle.std.proofs.lemmas.List.{length-map, get_or-map, get_or-take}
-use Rattle.std.proofs.lemmas.Bool.{cases_eq, cases_lt, cond-true, cond-false, eq-eqb, ne_eqb}
+--     Written k n ps mark   mark holds the sum, over the pairs of a symbol and a row, of the symbol times the row's word
+use Rattle.std.proofs.Common.{◌≡◌, ℕ, zero, suc, ◌<◌, ◌≤◌, true, eqb, ◌⊎◌, List, [], ◌∷◌, ◌++◌, length, get_or, take, sym, refl, ap, ◌∙◌, subst, ap₂, inl, inr, arith}
+use Rattle.std.specs.List.{zip}
+use Rattle.std.proofs.lemmas.List.{get_or-map, get_or-take, get_or_append_left, get_or_push, length-map, length_push}
+use Rattle.std.proofs.lemmas.Slice.Zip.{get_or-zip, length-zip}
+use Rattle.std.proofs.lemmas.Bool.{cases_eq, cond-true, cond-false, eq-eqb, ne_eqb}
 use Rattle.algebra.specs.Fields.{Symbols, SumProductLaws}
 use Rattle.algebra.specs.Groups.{Dots}
 use Rattle.words.specs.Stored.{Stores, word}
 use Rattle.words.specs.Words.{at, Lawful, nought, plus, less, scaled, Keeps}
 use Rattle.words.specs.declared.word.Word.{Word}
 use Rattle.words.proofs.CodeWords.{nought_keeps, plus_keeps, less_keeps, scaled_keeps}
-use Rattle.words.proofs.Fields.{product_zero}
+use Rattle.algebra.proofs.SumProducts.{product_zero}
 use Rattle.words.proofs.Linear.{at_less, at_nought, lawful_at, nought_lawful, same_from_less}
 use Rattle.words.proofs.Spans.{spanned, at_spanned, spanned_closed}
-use Rattle.words.proofs.Stored.{at_word}
-use Rattle.words.proofs.Tabulate.{at_tabulate, at_tabulate_past, word_ext}
-use Rattle.words.proofs.Totals.{total_one_term, field_adds}
-use Rattle.codes.specs.GroupCodes.{WrittenAs}
-use Rattle.codes.specs.GroupCodes.{Leads, MessageDots, chosen}
-use Rattle.codes.specs.Bases.{BasisOf, basis_dots, basis_word}
+use Rattle.words.proofs.Stored.{at_word, zero_stores}
+use Rattle.words.proofs.Tabulate.{tabulate_ext, word_ext}
+use Rattle.words.proofs.Totals.{total_cong, total_one_term, field_adds}
+use Rattle.codes.specs.GroupCodes.{Leads, MessageDots, WrittenAs, chosen}
+use Rattle.codes.specs.Bases.{BasisOf, basis_dots, basis_word, no_row}
 use Rattle.codes.specs.declared.basis.Basis.{Basis}
+use Rattle.codes.specs.declared.basis.BasisRow.{BasisRow}
 use Rattle.codes.proofs.BasisSteps.{combination_below, combination_below_none, combination_below_more}
-use Rattle.codes.proofs.EliminationSteps.{word_zero}
+use Rattle.codes.proofs.EliminationSteps.{get_or-basis_dots}
 
 first_nonzero : (w : List ℕ) (m : ℕ) → ((d : ℕ) → d < m → at w d ≡ 0) ⊎ ((d : ℕ) × (d < m) × Leads w d)
 first_nonzero w zero = inl (λ d h. absurd (omega arith))
@@ -90,34 +92,60 @@ module _ {k : Symbols} (laws : SumProductLaws k) {g : Dots} {e : List ℕ} (le :
       found = word_ext _ m (length-map (basis_dots b) (at (spanned k g.order (at m) (basis_word g.order b) b.count)) ∙ basis.many) lm.0 (λ i h.
           at_chosen (basis_dots b) _ i (omega (arith, basis.many)) ∙ at_written i h)
 
-at_nought_any : (n d : ℕ) → at (nought n) d ≡ 0
-unfolding nought
-at_nought_any n d = elim (cases_lt d n) [ inl h ↦ at_tabulate n (λ _. 0) d h | inr h ↦ at_tabulate_past n (λ _. 0) d h ]
+abbrev no_pair : ℕ × BasisRow
+no_pair = (0, no_row)
 
--- the loop that writes
-pub record Written (k : Symbols) (n : ℕ) (b : Basis) (m : List ℕ) (i : ℕ) (mark : Word) : Type 0 where
-  pub value : word n mark ≡ spanned k n (at m) (basis_word n b) i
+abbrev symbols_of : List (ℕ × BasisRow) → ℕ → ℕ
+symbols_of ps i = (get_or ps i no_pair).0
+
+abbrev words_of : ℕ → List (ℕ × BasisRow) → ℕ → List ℕ
+words_of n ps i = word n (get_or ps i no_pair).1.word
+
+-- the fold that writes
+pub record Written (k : Symbols) (n : ℕ) (ps : List (ℕ × BasisRow)) (mark : Word) : Type 0 where
+  pub value : word n mark ≡ spanned k n (symbols_of ps) (words_of n ps) (length ps)
   pub rest : (d : ℕ) → n ≤ d → at mark.symbols d ≡ 0
 
-module _ (k : Symbols) (n : ℕ) (b : Basis) (m : List ℕ) where
-  pub written_none : (mark : Word) → n ≤ 64 → mark.symbols ≡ nought 64 → Written k n b m 0 mark
+module _ (k : Symbols) (n : ℕ) where
+  spanned_cong : (c a : ℕ → ℕ) (W V : ℕ → List ℕ) (m : ℕ) → ((d : ℕ) → d < m → c d ≡ a d) → ((d : ℕ) → d < m → W d ≡ V d) → spanned k n c W m ≡ spanned k n a V m
+  unfolding spanned
+  spanned_cong c a W V m symbols words = tabulate_ext n _ _ (λ x h. total_cong k _ _ m (λ d l. ap₂ (λ y w. k.product y (at w x)) (symbols d l) (words d l)))
+
+  pub written_none : (mark : Word) → mark.symbols ≡ nought 64 → Written k n [] mark
   unfolding spanned combination_below
-  written_none mark h is = record {
-    value = word_zero n mark h is ∙ sym (combination_below_none k n (λ _. true) (basis_word n b) (at m));
-    rest = λ d l. ap (λ w. at w d) is ∙ at_nought_any 64 d;
+  written_none mark is = let zero = zero_stores n mark is in record {
+    value = zero.value ∙ sym (combination_below_none k n (λ _. true) (words_of n []) (symbols_of []));
+    rest = zero.rest;
   }
 
-  pub written_more : (i : ℕ) (before share after : Word) → Written k n b m i before → Stores n share (scaled k n (at m i) (basis_word n b i)) → Stores n after (plus k n (word n before) (word n share)) → Written k n b m (i + 1) after
+  pub written_more : (ps : List (ℕ × BasisRow)) (p : ℕ × BasisRow) (before share after : Word) → Written k n ps before → Stores n share (scaled k n p.0 (word n p.1.word)) → Stores n after (plus k n (word n before) (word n share)) → Written k n (ps ++ p ∷ []) after
   unfolding spanned combination_below
-  written_more i before share after w s a = record {
-    value = a.value ∙ ap (λ v. plus k n v (word n share)) w.value ∙ ap (plus k n (spanned k n (at m) (basis_word n b) i)) s.value ∙ sym (combination_below_more k n (λ _. true) (basis_word n b) (at m) i refl);
-    rest = a.rest;
-  }
+  written_more ps p before share after w s a =
+      let more = ps ++ p ∷ [] in
+      let here = sym (get_or_push ps p no_pair (length ps) refl) in
+      let earlier = λ (d : ℕ) (l : d < length ps). sym (get_or_append_left ps (p ∷ []) no_pair d l) in record {
+        value =
+            a.value
+            ∙ ap₂ (plus k n) (w.value ∙ spanned_cong (symbols_of ps) (symbols_of more) (words_of n ps) (words_of n more) (length ps) (λ d l. ap (λ (q : ℕ × BasisRow). q.0) (earlier d l)) (λ d l. ap (λ (q : ℕ × BasisRow). word n q.1.word) (earlier d l)))
+            (s.value ∙ ap (λ (q : ℕ × BasisRow). scaled k n q.0 (word n q.1.word)) here)
+            ∙ sym (combination_below_more k n (λ _. true) (words_of n more) (symbols_of more) (length ps) refl)
+            ∙ ap (spanned k n (symbols_of more) (words_of n more)) (sym (length_push ps p));
+        rest = a.rest;
+      }
+
+  pub written_all : (b : Basis) (m : List ℕ) (mark : Word) → length m ≡ b.count → length (take b.count b.rows) ≡ b.count → Written k n (zip m (take b.count b.rows)) mark → word n mark ≡ spanned k n (at m) (basis_word n b) b.count
+  written_all b m mark lm lb w =
+      let rows = take b.count b.rows in
+      let pair = λ (d : ℕ) (l : d < b.count). get_or-zip m rows d no_pair (omega arith) (omega arith) in
+      w.value
+      ∙ ap (spanned k n (symbols_of (zip m rows)) (words_of n (zip m rows))) (omega (arith, length-zip m rows))
+      ∙ spanned_cong (symbols_of (zip m rows)) (at m) (words_of n (zip m rows)) (basis_word n b) b.count (λ d l. ap (λ (q : ℕ × BasisRow). q.0) (pair d l)) (λ d l.
+      ap (λ (q : ℕ × BasisRow). word n q.1.word) (pair d l) ∙ ap (λ (r : BasisRow). word n r.word) (get_or-take b.count b.rows d no_row l))
 
 -- what the loop that reads leaves
-pub chosen_from_dots : (k : Symbols) (g : Dots) (e : List ℕ) (b : Basis) → BasisOf k g e b → (mark : Word) (m : List ℕ) → length m ≡ b.count → ((i : ℕ) → i < b.count → at m i ≡ at mark.symbols (get_or b.dots i 0)) → m ≡ chosen (basis_dots b) (word g.order mark)
+pub chosen_from_dots : (k : Symbols) (g : Dots) (e : List ℕ) (b : Basis) → BasisOf k g e b → (mark : Word) (m : List ℕ) → length m ≡ b.count → ((i : ℕ) → i < b.count → at m i ≡ at mark.symbols (get_or b.rows i no_row).dot) → m ≡ chosen (basis_dots b) (word g.order mark)
 chosen_from_dots k g e b basis mark m many same = word_ext m _ many (length-map (basis_dots b) (at (word g.order mark)) ∙ basis.many) (λ i h.
     same i h
-    ∙ ap (at mark.symbols) (sym (get_or-take b.count b.dots i 0 h))
+    ∙ ap (at mark.symbols) (sym (get_or-basis_dots b basis.many i h))
     ∙ at_word g.order mark (get_or (basis_dots b) i 0) (basis.dots.1 i (omega (arith, basis.many))).0
     ∙ sym (at_chosen (basis_dots b) (word g.order mark) i (omega (arith, basis.many))))

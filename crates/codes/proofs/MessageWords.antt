@@ -4,13 +4,13 @@ use Rattle.std.proofs.lemmas.Bool.{cases_lt, cases_Bool, both_ways}
 use Rattle.algebra.specs.Fields.{Symbols, SumProductLaws}
 use Rattle.algebra.specs.Groups.{Dots}
 use Rattle.words.specs.Words.{at, Lawful, nought, turned, Keeps}
-use Rattle.words.proofs.Fields.{product_zero, zero_product}
+use Rattle.algebra.proofs.SumProducts.{product_zero, zero_product}
 use Rattle.words.proofs.Turning.{turned_lawful}
 use Rattle.words.proofs.Spans.{keeps_is_spanned, spanned_closed}
 use Rattle.codes.specs.GroupCodes.{MessageDot, MessageDots}
 use Rattle.codes.specs.Eliminations.{combination, residual, Reduced, pivots}
 use Rattle.codes.proofs.Residuals.{Reached, basis_lawful, at_combination_zero, reached_nought, reached_plus, reached_scaled, reached_from_residual}
-use Rattle.codes.proofs.PivotLists.{length_pivots_below, getD_pivots, pivots_listed, pivots_rising, same_from_rising}
+use Rattle.codes.proofs.PivotLists.{length_pivots_below, get_or_pivots, pivots_listed, pivots_rising, same_from_rising}
 
 pub message_dots_unique : (k : Symbols) (g : Dots) (e ds es : List ℕ) → MessageDots k g e ds → MessageDots k g e es → ds ≡ es
 message_dots_unique k g e ds es md me =
@@ -45,5 +45,5 @@ module _ {k : Symbols} (laws : SumProductLaws k) {g : Dots} {e : List ℕ} (le :
     pivots_are_message_dots = (
       pivots_rising P g.order,
       λ i h. let (l, p, _) = pivots_listed P g.order i h in message_dot_from_pivot (get_or (pivots g.order P) i 0) l p,
-      λ d m. let p = pivot_from_message_dot d m in (length (pivots d P), length_pivots_below P g.order d m.0 p, getD_pivots P g.order d m.0 p),
+      λ d m. let p = pivot_from_message_dot d m in (length (pivots d P), length_pivots_below P g.order d m.0 p, get_or_pivots P g.order d m.0 p),
     )

@@ -42,20 +42,20 @@ module _ (P : ℕ → Bool) where
   pub length_pivots_below : (n d : ℕ) → d < n → P d ≡ true → length (pivots d P) < length (pivots n P)
   length_pivots_below n d h p = omega (arith, ap length (pivots_more d p), length_push (pivots d P) d, length_pivots_rises (d + 1) n (omega arith))
 
-  getD_more : (n i : ℕ) → i < length (pivots n P) → get_or (pivots (n + 1) P) i 0 ≡ get_or (pivots n P) i 0
-  getD_more n i h = elim (cases_Bool (P n)) [
+  get_or_more : (n i : ℕ) → i < length (pivots n P) → get_or (pivots (n + 1) P) i 0 ≡ get_or (pivots n P) i 0
+  get_or_more n i h = elim (cases_Bool (P n)) [
     | inl p ↦ rw (pivots_more n p) (get_or_append_left (pivots n P) (n ∷ []) 0 i h)
     | inr p ↦ rw (pivots_skip n p) refl
   ]
 
-  getD_last : (n : ℕ) → P n ≡ true → get_or (pivots (n + 1) P) (length (pivots n P)) 0 ≡ n
-  getD_last n p = rw (pivots_more n p) (get_or_push (pivots n P) n 0 (length (pivots n P)) refl)
+  get_or_last : (n : ℕ) → P n ≡ true → get_or (pivots (n + 1) P) (length (pivots n P)) 0 ≡ n
+  get_or_last n p = rw (pivots_more n p) (get_or_push (pivots n P) n 0 (length (pivots n P)) refl)
 
-  pub getD_pivots : (n d : ℕ) → d < n → P d ≡ true → get_or (pivots n P) (length (pivots d P)) 0 ≡ d
-  getD_pivots zero d h p = absurd (omega arith)
-  getD_pivots (suc n) d h p = elim (cases_eq d n) [
-    | inl s ↦ subst (λ i. get_or (pivots (suc n) P) (length (pivots i P)) 0 ≡ i) (sym s) (rw (← add-one) (getD_last n (sym (ap P s) ∙ p)))
-    | inr ne ↦ rw (← add-one) (getD_more n (length (pivots d P)) (length_pivots_below n d (omega arith) p) ∙ getD_pivots n d (omega arith) p)
+  pub get_or_pivots : (n d : ℕ) → d < n → P d ≡ true → get_or (pivots n P) (length (pivots d P)) 0 ≡ d
+  get_or_pivots zero d h p = absurd (omega arith)
+  get_or_pivots (suc n) d h p = elim (cases_eq d n) [
+    | inl s ↦ subst (λ i. get_or (pivots (suc n) P) (length (pivots i P)) 0 ≡ i) (sym s) (rw (← add-one) (get_or_last n (sym (ap P s) ∙ p)))
+    | inr ne ↦ rw (← add-one) (get_or_more n (length (pivots d P)) (length_pivots_below n d (omega arith) p) ∙ get_or_pivots n d (omega arith) p)
   ]
 
   abbrev pub Listed : ℕ → ℕ → ℕ → Type 0
@@ -66,11 +66,11 @@ module _ (P : ℕ → Bool) where
   pivots_listed (suc n) i h = elim (cases_lt i (length (pivots n P))) [
     | inl l ↦
         let (ld, p, s) = pivots_listed n i l in
-        subst (Listed (suc n) i) (sym (rw (← add-one) (getD_more n i l))) (omega arith, p, s)
+        subst (Listed (suc n) i) (sym (rw (← add-one) (get_or_more n i l))) (omega arith, p, s)
     | inr l ↦ elim (cases_Bool (P n)) [
       | inl p ↦
           let s : length (pivots n P) ≡ i = omega (arith, ap length (rw add-one at (pivots_more n p)), length_push (pivots n P) n) in
-          subst (Listed (suc n) i) (sym (rw (← add-one, ← s) (getD_last n p))) (omega arith, p, s)
+          subst (Listed (suc n) i) (sym (rw (← add-one, ← s) (get_or_last n p))) (omega arith, p, s)
       | inr p ↦ absurd (omega (arith, ap length (rw add-one at (pivots_skip n p))))
     ]
   ]

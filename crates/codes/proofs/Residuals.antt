@@ -6,7 +6,7 @@ use Rattle.algebra.specs.Fields.{Symbols, SumProductLaws}
 use Rattle.algebra.specs.Groups.{Dots}
 use Rattle.words.specs.Words.{at, total, Lawful, nought, plus, less, scaled, Keeps}
 use Rattle.codes.specs.Eliminations.{combination, residual, Reduced}
-use Rattle.words.proofs.Fields.{zero_sum, product_zero, zero_product, one_product}
+use Rattle.algebra.proofs.SumProducts.{zero_sum, product_zero, zero_product, one_product}
 use Rattle.words.proofs.Tabulate.{at_tabulate, word_ext, tabulate_ext}
 use Rattle.words.proofs.Totals.{total_cong, total_zero, total_one_term, field_adds, total_below}
 use Rattle.words.proofs.Linear.{at_nought, at_plus, at_less, at_scaled, tabulate_lawful, nought_lawful, plus_lawful, less_lawful, scaled_lawful, less_self, less_plus, plus_less, same_from_less}

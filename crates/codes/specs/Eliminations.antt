@@ -10,7 +10,7 @@
 --     Absorbs k g e s w s'      s' is reduced, and what is within s is within s', as w is
 --     Spans k g e m s           s is reduced, and the turns of e by the dots below m are within s
 --     Listed n s b              b lists the pivots of s, rising, with their words
-use Rattle.std.specs.Prelude.{◌≡◌, ℕ, zero, suc, ◌<◌, Bool, true, false, cond, ◌≢◌, List, [], ◌∷◌, ◌++◌, length, slice_index, slice_index_or}
+use Rattle.std.specs.Prelude.{◌≡◌, ℕ, zero, suc, ◌<◌, Bool, true, cond, ◌≢◌, List, [], ◌∷◌, ◌++◌, length, slice_index, slice_index_or, None, is_some, unwrap_or}
 use Rattle.algebra.specs.Fields.{Symbols}
 use Rattle.algebra.specs.Groups.{Dots}
 use Rattle.words.specs.Stored.{word}
@@ -45,10 +45,10 @@ pivots zero P = []
 pivots (suc n) P = pivots n P ++ cond (P n) (n ∷ []) []
 
 abbrev pub pivot_at : Elimination → ℕ → Bool
-pivot_at s d = slice_index_or s.pivots d false
+pivot_at s d = is_some (slice_index_or s.rows d None)
 
 abbrev pub word_at : ℕ → Elimination → ℕ → List ℕ
-word_at n s d = word n (slice_index_or s.words d no_word)
+word_at n s d = word n (unwrap_or (slice_index_or s.rows d None) no_word)
 
 abbrev pub Within : Symbols → ℕ → Elimination → List ℕ → Type 0
 Within k n s w = residual k n (pivot_at s) (word_at n s) w ≡ nought n

@@ -7,10 +7,17 @@ ghost use Rattle.std.specs.Prelude.{◌≤◌};
 
 use words::Word;
 
+// A message dot with its code word.
+#[derive(Clone, Copy)]
+pub struct BasisRow {
+    pub dot: usize,
+    pub word: Word,
+}
+
+// The length stands beside the rows, as a basis is Copy, with no heap.
 #[derive(Clone, Copy)]
 pub struct Basis {
-    pub words: [Word; 64],
-    pub dots: [u8; 64],
+    pub rows: [BasisRow; 64],
     pub count: usize,
     ghost most: { count ≤ 64 },
 }

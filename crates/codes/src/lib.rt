@@ -3,4 +3,4 @@
 
 mod basis;
 
-pub use basis::Basis;
+pub use basis::{Basis, BasisRow};

@@ -1,19 +1,27 @@
 // The fields of 4, 8 and 16 elements: polynomials whose coefficients are the bits of a code.
 ghost use Rattle.std.specs.Prelude.{◌≡◌, ◌<◌, true};
-ghost use Rattle.fields.specs.FieldKinds.{binary_orders, binary_symbols, listed, times_z};
+ghost use Rattle.algebra.specs.Checks.{Judged};
+ghost use Rattle.fields.specs.FieldKinds.{binary_orders, binary_symbols, listed, order_checks, times_z};
 ghost use Rattle.fields.specs.SmallFields.{binary_laws};
 
-use algebra::Field;
+use algebra::{Fault, Field, Part};
 
-mod new;
-
-#[derive(Clone, Copy)]
+#[derive(Clone, Copy, PartialEq, Eq, Hash, Debug)]
 pub struct BinaryField {
     order: u8,
     ghost binary: { listed binary_orders order ≡ true },
 }
 
 impl BinaryField {
+    pub fn new(order: u8) -> Result<BinaryField, Fault>
+        ensures { Judged (order_checks binary_orders order) result (λ x. ⟦<BinaryField as Field>⟧.symbols x ≡ binary_symbols order) }
+    {
+        match order {
+            4 | 8 | 16 => Ok(BinaryField { order }),
+            _ => Err(Fault::order(Part::Symbols)),
+        }
+    }
+
     // The modulus, as a code, is 3 more than the order.
     fn times_z(self, a: u8) -> u8
         requires { a < self.order }
@@ -52,6 +60,7 @@ impl Field for BinaryField {
         if a >= self.order || b >= self.order {
             return 0;
         }
+        // The bits of b by their numbers: a fold that hands on the pair of product and shifted is no plainer.
         let mut product = 0;
         let mut shifted = a;
         for i in 0u8..4 {
@@ -61,14 +70,5 @@ impl Field for BinaryField {
             shifted = self.times_z(shifted);
         }
         product
-    }
-
-    fn inverse(&self, a: u8) -> Option<u8> {
-        for b in 0..self.order {
-            if self.product(a, b) == 1 {
-                return Some(b);
-            }
-        }
-        None
     }
 }

@@ -1,16 +1,26 @@
 // The fields of prime order, whose codes add and multiply modulo the order.
 ghost use Rattle.std.specs.Prelude.{◌≡◌, true};
-ghost use Rattle.fields.specs.FieldKinds.{listed, prime_orders, prime_symbols};
+ghost use Rattle.algebra.specs.Checks.{Judged};
+ghost use Rattle.fields.specs.FieldKinds.{listed, order_checks, prime_orders, prime_symbols};
 ghost use Rattle.fields.specs.SmallFields.{prime_laws};
 
-use algebra::Field;
+use algebra::{Fault, Field, Part};
 
-mod new;
-
-#[derive(Clone, Copy)]
+#[derive(Clone, Copy, PartialEq, Eq, Hash, Debug)]
 pub struct PrimeField {
     order: u8,
     ghost prime: { listed prime_orders order ≡ true },
+}
+
+impl PrimeField {
+    pub fn new(order: u8) -> Result<PrimeField, Fault>
+        ensures { Judged (order_checks prime_orders order) result (λ x. ⟦<PrimeField as Field>⟧.symbols x ≡ prime_symbols order) }
+    {
+        match order {
+            2 | 3 | 5 | 7 | 11 | 13 => Ok(PrimeField { order }),
+            _ => Err(Fault::order(Part::Symbols)),
+        }
+    }
 }
 
 impl Field for PrimeField {
@@ -41,14 +51,5 @@ impl Field for PrimeField {
             return 0;
         }
         (a * b) % self.order
-    }
-
-    fn inverse(&self, a: u8) -> Option<u8> {
-        for b in 0..self.order {
-            if self.product(a, b) == 1 {
-                return Some(b);
-            }
-        }
-        None
     }
 }

@@ -17,7 +17,7 @@ fn product_of_polynomials(rt: HostRuntime) -> Result<(), Fail> {
 
 #[test]
 fn refused_orders(rt: HostRuntime) {
-    assert_eq!(rt; Refusal::Order.number(), 1);
+    assert_eq!(rt; u8::from(Refusal::Order), 1);
     let refused = Fault {
         refusal: Refusal::Order,
         part: Part::Symbols,

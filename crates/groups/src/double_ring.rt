@@ -1,16 +1,26 @@
 // A double ring of the 2m dots i and m + i, for i below m.
-ghost use Rattle.std.specs.Prelude.{◌≤◌};
-ghost use Rattle.groups.specs.GroupKinds.{double_ring_dots};
+ghost use Rattle.std.specs.Prelude.{◌≡◌, ◌≤◌};
+ghost use Rattle.algebra.specs.Checks.{Judged};
+ghost use Rattle.groups.specs.GroupKinds.{double_ring_dots, order_checks};
 ghost use Rattle.groups.specs.DoubleRings.{double_ring_laws};
 
-use algebra::Group;
+use algebra::{Fault, Group, Part};
 
-mod new;
-
-#[derive(Clone, Copy)]
+#[derive(Clone, Copy, PartialEq, Eq, Hash, Debug)]
 pub struct DoubleRing {
     half: usize,
     ghost within: { (1 ≤ half) × (half ≤ 32) },
+}
+
+impl DoubleRing {
+    pub fn new(m: usize) -> Result<DoubleRing, Fault>
+        ensures { Judged (order_checks 32 m) result (λ x. ⟦<DoubleRing as Group>⟧.dots x ≡ double_ring_dots m) }
+    {
+        match m {
+            1..=32 => Ok(DoubleRing { half: m }),
+            _ => Err(Fault::order(Part::Dots)),
+        }
+    }
 }
 
 impl Group for DoubleRing {

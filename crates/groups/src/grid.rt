@@ -5,7 +5,7 @@ ghost use Rattle.groups.specs.Grids.{grid_laws};
 
 use algebra::Group;
 
-#[derive(Clone, Copy)]
+#[derive(Clone, Copy, PartialEq, Eq, Hash, Debug)]
 pub struct Grid<A, B> {
     a: A,
     b: B,

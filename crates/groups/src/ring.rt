@@ -1,16 +1,26 @@
 // A ring of n dots, which multiply by adding their numbers modulo n.
-ghost use Rattle.std.specs.Prelude.{◌≤◌};
-ghost use Rattle.groups.specs.GroupKinds.{ring_dots};
+ghost use Rattle.std.specs.Prelude.{◌≡◌, ◌≤◌};
+ghost use Rattle.algebra.specs.Checks.{Judged};
+ghost use Rattle.groups.specs.GroupKinds.{order_checks, ring_dots};
 ghost use Rattle.groups.specs.Rings.{ring_laws};
 
-use algebra::Group;
+use algebra::{Fault, Group, Part};
 
-mod new;
-
-#[derive(Clone, Copy)]
+#[derive(Clone, Copy, PartialEq, Eq, Hash, Debug)]
 pub struct Ring {
     order: usize,
     ghost within: { (1 ≤ order) × (order ≤ 64) },
+}
+
+impl Ring {
+    pub fn new(n: usize) -> Result<Ring, Fault>
+        ensures { Judged (order_checks 64 n) result (λ x. ⟦<Ring as Group>⟧.dots x ≡ ring_dots n) }
+    {
+        match n {
+            1..=64 => Ok(Ring { order: n }),
+            _ => Err(Fault::order(Part::Dots)),
+        }
+    }
 }
 
 impl Group for Ring {

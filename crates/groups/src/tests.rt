@@ -1,6 +1,6 @@
 // Products in the kinds of groups, and what is refused.
 use crate::{DoubleRing, Grid, Ring};
-use algebra::{Fault, Group, Part};
+use algebra::{Fault, Group, Part, Refusal};
 use std::test::Fail;
 
 #[test]
@@ -24,15 +24,10 @@ fn grids(rt: HostRuntime) -> Result<(), Fail> {
 
 #[test]
 fn refusals(rt: HostRuntime) {
-    assert!(rt; is_refused(Ring::new(0).err()));
-    assert!(rt; is_refused(Ring::new(65).err()));
-    assert!(rt; is_refused(DoubleRing::new(0).err()));
-    assert!(rt; is_refused(DoubleRing::new(33).err()));
-}
-
-fn is_refused(fault: Option<Fault>) -> bool {
-    match fault {
-        Some(fault) => fault.refusal.number() == 1 && fault.part == Part::Dots && fault.place == 0,
-        None => false,
-    }
+    let refused = Some(Fault::order(Part::Dots));
+    assert_eq!(rt; u8::from(Refusal::Order), 1);
+    assert_eq!(rt; Ring::new(0).err(), refused);
+    assert_eq!(rt; Ring::new(65).err(), refused);
+    assert_eq!(rt; DoubleRing::new(0).err(), refused);
+    assert_eq!(rt; DoubleRing::new(33).err(), refused);
 }

@@ -2,9 +2,10 @@
 // The script comes from standard input, a command or a line of numbers at a time.
 #![tactic(auto)]
 
-use algebra::{Fault, Group};
+use algebra::Group;
 use anyhow::anyhow;
 use std::alloc::{AllocError, Global};
+use std::fmt;
 use tables::TableGroup;
 use words::{DotRecord, alike, turn};
 
@@ -17,7 +18,63 @@ fn main(rt: HostRuntime) -> anyhow::Result<()> {
     Ok(())
 }
 
-// What one camera saw: a symbol and a record for each dot, in the order in which the camera met them.
+// The table of a group, as far as it has been read. Its rows are counted, since those of a wrong table may have any
+// length.
+#[derive(Drop)]
+struct Table {
+    rows: usize,
+    entries: Vec<u8>,
+}
+
+impl Table {
+    fn new(heap: Global) -> Table {
+        Table {
+            rows: 0,
+            entries: Vec::new(heap),
+        }
+    }
+
+    fn clear(&mut self) {
+        self.rows = 0;
+        self.entries.clear();
+    }
+
+    fn push(&mut self, row: &[u16]) -> anyhow::Result<()> {
+        for entry in row {
+            self.entries.push(u8::try_from(*entry)?)?;
+        }
+        self.rows = self.rows.saturating_add(1);
+        Ok(())
+    }
+}
+
+// What a line of a picture says of one dot.
+#[derive(Clone, Copy)]
+struct Dot {
+    symbol: u8,
+    record: DotRecord,
+}
+
+impl TryFrom<&[u16]> for Dot {
+    type Error = anyhow::Error;
+
+    fn try_from(numbers: &[u16]) -> anyhow::Result<Dot> {
+        let [symbol, across, down, grey] = numbers else {
+            return Err(anyhow!("a dot has a symbol, an across, a down and a grey"));
+        };
+        Ok(Dot {
+            symbol: u8::try_from(*symbol)?,
+            record: DotRecord {
+                across: *across,
+                down: *down,
+                grey: u8::try_from(*grey)?,
+            },
+        })
+    }
+}
+
+// What one camera saw: a symbol and a record for each dot, in the order in which the camera met them. They are two
+// lists, since marks are compared and turned by their symbols alone.
 #[derive(Drop)]
 struct Picture {
     symbols: Vec<u8>,
@@ -37,14 +94,37 @@ impl Picture {
         self.records.clear();
     }
 
-    fn push(&mut self, symbol: u8, record: DotRecord) -> Result<(), AllocError> {
-        self.symbols.push(symbol)?;
-        self.records.push(record)?;
+    fn push(&mut self, dot: Dot) -> Result<(), AllocError> {
+        self.symbols.push(dot.symbol)?;
+        self.records.push(dot.record)?;
+        Ok(())
+    }
+
+    // The picture, turned by dot g.
+    fn turned(&self, group: &TableGroup, g: usize) -> anyhow::Result<Picture> {
+        let mut symbols = self.symbols.clone()?;
+        let mut records = self.records.clone()?;
+        turn(group, g, self.symbols.as_slice(), symbols.as_mut_slice())?;
+        turn(group, g, self.records.as_slice(), records.as_mut_slice())?;
+        Ok(Picture { symbols, records })
+    }
+}
+
+// Symbols as they are printed, each after a space.
+#[derive(Drop)]
+struct Symbols<'a>(&'a [u8]);
+
+impl fmt::Display for Symbols<'_> {
+    fn fmt<W: fmt::Write>(&self, f: &mut fmt::Formatter<W>) -> fmt::Result {
+        for symbol in self.0 {
+            write!(f, " {symbol}")?;
+        }
         Ok(())
     }
 }
 
-// What the next line of numbers belongs to.
+// Which part of the bench takes the next line of numbers. A closure in its place would have to borrow that part beside
+// the bench.
 #[derive(Clone, Copy)]
 enum Section {
     Table,
@@ -56,8 +136,7 @@ enum Section {
 #[derive(Drop)]
 struct Bench {
     group: TableGroup,
-    rows: usize,
-    table: Vec<u8>,
+    table: Table,
     first: Picture,
     second: Picture,
     section: Section,
@@ -68,8 +147,7 @@ impl Bench {
     fn new(heap: Global) -> Bench {
         Bench {
             group: TableGroup::new(),
-            rows: 0,
-            table: Vec::new(heap),
+            table: Table::new(heap),
             first: Picture::new(heap),
             second: Picture::new(heap),
             section: Section::Table,
@@ -80,22 +158,9 @@ impl Bench {
     fn follow(&mut self, rt: &HostRuntime, line: &str) -> anyhow::Result<()> {
         match line {
             "" => Ok(()),
-            "table" => {
-                self.section = Section::Table;
-                self.rows = 0;
-                self.table.clear();
-                Ok(())
-            }
-            "first" => {
-                self.section = Section::First;
-                self.first.clear();
-                Ok(())
-            }
-            "second" => {
-                self.section = Section::Second;
-                self.second.clear();
-                Ok(())
-            }
+            "table" => self.begin(Section::Table),
+            "first" => self.begin(Section::First),
+            "second" => self.begin(Section::Second),
             "adopt" => self.adopt(rt),
             "line up" => self.line_up(rt),
             _ if line.starts_with('#') => Ok(()),
@@ -103,32 +168,36 @@ impl Bench {
         }
     }
 
+    fn begin(&mut self, section: Section) -> anyhow::Result<()> {
+        self.section = section;
+        match section {
+            Section::Table => self.table.clear(),
+            Section::First => self.first.clear(),
+            Section::Second => self.second.clear(),
+        }
+        Ok(())
+    }
+
     fn take(&mut self, line: &str) -> anyhow::Result<()> {
         let mut numbers = Vec::new(self.heap);
         for word in line.split_whitespace() {
             numbers.push(word.parse::<u16>()?)?;
         }
+        let numbers = numbers.as_slice();
         match self.section {
-            Section::Table => self.take_row(numbers.as_slice()),
-            Section::First => take_dot(&mut self.first, numbers.as_slice()),
-            Section::Second => take_dot(&mut self.second, numbers.as_slice()),
+            Section::Table => self.table.push(numbers)?,
+            Section::First => self.first.push(Dot::try_from(numbers)?)?,
+            Section::Second => self.second.push(Dot::try_from(numbers)?)?,
         }
-    }
-
-    fn take_row(&mut self, numbers: &[u16]) -> anyhow::Result<()> {
-        for number in numbers {
-            self.table.push(u8::try_from(*number)?)?;
-        }
-        self.rows = self.rows.saturating_add(1);
         Ok(())
     }
 
     fn adopt(&mut self, rt: &HostRuntime) -> anyhow::Result<()> {
-        let rows = self.rows;
-        match self.group.adopt(rows, self.table.as_slice()) {
+        let rows = self.table.rows;
+        match self.group.adopt(rows, self.table.entries.as_slice()) {
             Ok(()) => println!(rt; "The table of {rows} dots is a group, and it is taken.")?,
             Err(fault) => {
-                print_fault(rt, "The table", fault)?;
+                println!(rt; "The table is refused by {fault}.")?;
                 let kept = self.group.order();
                 println!(rt; "The group of {kept} dots stays.")?;
             }
@@ -137,93 +206,34 @@ impl Bench {
     }
 
     fn line_up(&self, rt: &HostRuntime) -> anyhow::Result<()> {
-        match alike(
-            &self.group,
-            self.second.symbols.as_slice(),
-            self.first.symbols.as_slice(),
-        ) {
+        let second = self.second.symbols.as_slice();
+        match alike(&self.group, second, self.first.symbols.as_slice()) {
             Ok(Some(g)) => {
                 println!(rt;
                     "The second picture lies over the first when it is turned by dot {g}."
                 )?;
-                self.print_turned(rt, g)
+                self.print_turned(rt, g)?;
             }
-            Ok(None) => {
-                println!(rt;
-                    "No turn lays the second picture over the first: it shows another mark."
-                )?;
-                Ok(())
-            }
-            Err(fault) => print_fault(rt, "The pair of pictures", fault),
-        }
-    }
-
-    fn print_turned(&self, rt: &HostRuntime, g: usize) -> anyhow::Result<()> {
-        let mut symbols = self.second.symbols.clone()?;
-        let mut records = self.second.records.clone()?;
-        if let Err(fault) = turn(
-            &self.group,
-            g,
-            self.second.symbols.as_slice(),
-            symbols.as_mut_slice(),
-        ) {
-            return print_fault(rt, "The turn of the symbols", fault);
-        }
-        if let Err(fault) = turn(
-            &self.group,
-            g,
-            self.second.records.as_slice(),
-            records.as_mut_slice(),
-        ) {
-            return print_fault(rt, "The turn of the records", fault);
-        }
-        print!(rt; "Its symbols")?;
-        for symbol in self.second.symbols.iter() {
-            print!(rt; " {symbol}")?;
-        }
-        print!(rt; " become")?;
-        for symbol in symbols.iter() {
-            print!(rt; " {symbol}")?;
-        }
-        println!(rt; ".")?;
-        for (dot, (before, after)) in self.second.records.iter().zip(records.iter()).enumerate() {
-            print_records(rt, dot, before, after)?;
+            Ok(None) => println!(rt;
+                "No turn lays the second picture over the first: it shows another mark."
+            )?,
+            Err(fault) => println!(rt; "The pair of pictures is refused by {fault}.")?,
         }
         Ok(())
     }
-}
 
-// A dot's line: its symbol, and where and how grey the camera saw it.
-fn take_dot(picture: &mut Picture, numbers: &[u16]) -> anyhow::Result<()> {
-    let [symbol, across, down, grey] = numbers else {
-        return Err(anyhow!("a dot has a symbol, an across, a down and a grey"));
-    };
-    let record = DotRecord {
-        across: *across,
-        down: *down,
-        grey: u8::try_from(*grey)?,
-    };
-    picture.push(u8::try_from(*symbol)?, record)?;
-    Ok(())
-}
-
-fn print_records(
-    rt: &HostRuntime,
-    dot: usize,
-    before: &DotRecord,
-    after: &DotRecord,
-) -> anyhow::Result<()> {
-    let (x, y, z) = (before.across, before.down, before.grey);
-    print!(rt; "Dot {dot} had across {x}, down {y}, grey {z}")?;
-    let (x, y, z) = (after.across, after.down, after.grey);
-    println!(rt; " and has across {x}, down {y}, grey {z}.")?;
-    Ok(())
-}
-
-fn print_fault(rt: &HostRuntime, what: &str, fault: Fault) -> anyhow::Result<()> {
-    let number = fault.refusal.number();
-    let part = fault.part.name();
-    let place = fault.place;
-    println!(rt; "{what} is refused by rule {number}, part {part}, place {place}.")?;
-    Ok(())
+    fn print_turned(&self, rt: &HostRuntime, g: usize) -> anyhow::Result<()> {
+        let seen = &self.second;
+        let turned = seen.turned(&self.group, g)?;
+        println!(rt;
+            "Its symbols{} become{}.",
+            Symbols(seen.symbols.as_slice()),
+            Symbols(turned.symbols.as_slice())
+        )?;
+        let records = seen.records.iter().zip(turned.records.iter());
+        for (dot, (before, after)) in records.enumerate() {
+            println!(rt; "Dot {dot} had {before} and has {after}.")?;
+        }
+        Ok(())
+    }
 }

@@ -1,58 +1,56 @@
--- Writing to a line one part after another.
-use Rattle.std.proofs.Common.{◌≡◌, ℕ, zero, suc, ◌+◌, ◌/◌, ◌%◌, ◌^◌, ◌<◌, ◌≤◌, List, [], ◌∷◌, ◌++◌, length, get_or, take, set, decimal, sym, refl, ap, ◌∙◌, subst, inl, inr, mod-eq_of_lt, arith}
+-- Writing to a buffer one part after another.
+use Rattle.std.proofs.Common.{◌≡◌, ℕ, zero, suc, ◌+◌, ◌-◌, ◌/◌, ◌%◌, ◌^◌, ◌<◌, ◌≤◌, List, [], ◌∷◌, ◌++◌, length, take, drop, replicate, set, decimal, sym, refl, ap, ◌∙◌, subst, mod-eq_of_lt, arith, length-take, length-take-le}
 use Rattle.std.proofs.lemmas.Fmt.{decimal_digit, decimal_step, length-decimal-le}
-use Rattle.std.proofs.lemmas.List.{append_assoc, append-nil, get_or_past, get_or-take, length-map, length-take, length_push, length-take-le, take_all, take_at, take_more_set}
-use Rattle.std.proofs.lemmas.Bool.{cases_lt}
-use Rattle.marks_lines.specs.Held.{Appends, held, text}
+use Rattle.std.proofs.lemmas.List.{append_assoc, append-nil, drop-drop, drop-replicate, drop-set-lt, length-append, length-map, length_push, take_all, take_at, take_more_set}
+use Rattle.marks_lines.specs.Held.{Appends, text}
 use Rattle.marks_lines.specs.Replies.{number, word}
 use Rattle.marks_lines.specs.declared.digits.Digits.{Digits}
-use Rattle.marks_lines.specs.declared.line.Line.{Line}
+use Rattle.marks_lines.specs.declared.held.Held.{Held}
 
-take_take_append : (n : ℕ) (xs ys : List ℕ) → take n (take n xs ++ ys) ≡ take n (xs ++ ys)
+pub take_take_append : (n : ℕ) (xs ys : List ℕ) → take n (take n xs ++ ys) ≡ take n (xs ++ ys)
 take_take_append zero xs ys = refl
 take_take_append (suc n) [] ys = refl
 take_take_append (suc n) (x ∷ xs) ys = ap (λ zs. x ∷ zs) (take_take_append n xs ys)
 
-length_text : (l : Line) → length (text l) ≤ 192
-length_text l = simp length-take (omega (arith, l.short))
+pub appends_nothing : {n : ℕ} (l : Held n) → Appends l [] l
+appends_nothing {n} l = record { all = sym (take_all n (text l ++ []) (rw append-nil (simp length-take (omega (arith, l.short)))) ∙ append-nil (text l)) }
 
-pub appends_nothing : (l : Line) → Appends l [] l
-appends_nothing l = record { all = sym (take_all 192 (text l ++ []) (rw append-nil (length_text l)) ∙ append-nil (text l)) }
-
-pub appends_more : {k l m : Line} {xs ys : List ℕ} → Appends k xs l → Appends l ys m → Appends k (xs ++ ys) m
-appends_more {k} {l} {m} {xs} {ys} p q = record {
-  all = q.all ∙ ap (λ t. take 192 (t ++ ys)) p.all ∙ take_take_append 192 (text k ++ xs) ys ∙ ap (take 192) (append_assoc (text k) xs ys);
+pub appends_more : {n : ℕ} {k l m : Held n} {xs ys : List ℕ} → Appends k xs l → Appends l ys m → Appends k (xs ++ ys) m
+appends_more {n} {k} {l} {m} {xs} {ys} p q = record {
+  all = q.all ∙ ap (λ t. take n (t ++ ys)) p.all ∙ take_take_append n (text k ++ xs) ys ∙ ap (λ t. take n t) (append_assoc (text k) xs ys);
 }
 
-pub appends_same : {k l : Line} {xs ys : List ℕ} → xs ≡ ys → Appends k xs l → Appends k ys l
-appends_same {k} {l} e p = subst (λ zs. Appends k zs l) e p
+pub appends_same : {n : ℕ} {k l : Held n} {xs ys : List ℕ} → xs ≡ ys → Appends k xs l → Appends k ys l
+appends_same {n} {k} {l} e p = subst (λ zs. Appends k zs l) e p
 
-pub text_all : (k l : Line) (xs : List ℕ) → text k ≡ [] → length xs ≤ 192 → Appends k xs l → text l ≡ xs
-text_all k l xs none short p = p.all ∙ ap (λ t. take 192 (t ++ xs)) none ∙ take_all 192 xs short
+pub whole_line : {n : ℕ} (k l : Held n) {m : Held n} {xs : List ℕ} (byte : ℕ) → text k ≡ [] → length xs < n → Appends k xs l → Appends l (byte ∷ []) m → text m ≡ xs ++ byte ∷ []
+whole_line {n} k l {m} {xs} byte none short p q =
+    (appends_more p q).all ∙ ap (λ t. take n (t ++ (xs ++ byte ∷ []))) none ∙ take_all n (xs ++ byte ∷ []) (omega (arith, length-append xs (byte ∷ [])))
 
-pub pushed : (bytes : List ℕ) (len byte : ℕ) → len < 192 → length bytes ≡ 192 → take (len + 1) (set bytes len byte) ≡ take 192 (take len bytes ++ byte ∷ [])
-pushed bytes len byte h size =
-    let n = length-take-le len bytes (omega arith) in
-    take_more_set bytes len byte (omega arith) ∙ sym (take_all 192 (take len bytes ++ byte ∷ []) (simp length_push (omega arith)))
+-- One byte more, where there is room and where there is none.
+module _ (n : ℕ) (bytes : List ℕ) (len byte : ℕ) (size : length bytes ≡ n) where
+  pub pushed : len < n → take (len + 1) (set bytes len byte) ≡ take n (take len bytes ++ byte ∷ [])
+  pushed h =
+      let kept = length-take-le len bytes (omega arith) in
+      take_more_set bytes len byte (omega arith) ∙ sym (take_all n (take len bytes ++ byte ∷ []) (simp length_push (omega arith)))
 
-pub full : (l : Line) (byte : ℕ) → 192 ≤ l.len → length l.bytes ≡ 192 → Appends l (byte ∷ []) l
-full l byte h size = record { all = sym (take_at (text l) (byte ∷ []) 192 (length-take-le l.len l.bytes (omega (arith, l.short)) ∙ omega (arith, l.short))) }
+  pub zeros_left : len < n → drop len bytes ≡ replicate (n - len) 0 → drop (len + 1) (set bytes len byte) ≡ replicate (n - (len + 1)) 0
+  zeros_left h zeros =
+      let rest : n - len - 1 ≡ n - (len + 1) = omega arith in
+      drop-set-lt (len + 1) bytes len byte (omega arith) ∙ sym (drop-drop 1 len bytes) ∙ ap (λ (bs : List ℕ). drop 1 bs) zeros ∙ drop-replicate 1 (n - len) 0 ∙ ap (λ k. replicate k 0) rest
 
-module _ {l m n : Line} (x : ℕ) (same : n ≡ m) (last : Appends n ((48 + x % 10) ∷ []) l) where
-  pub decimal_more : {k : Line} → 10 ≤ x → x < 2 ^ 64 → Appends k (decimal (x / 10)) m → Appends k (decimal x) l
+pub full : {n : ℕ} (l : Held n) (byte : ℕ) → n ≤ l.len → length l.bytes ≡ n → Appends l (byte ∷ []) l
+full {n} l byte h size = record { all = sym (take_at (text l) (byte ∷ []) n (length-take-le l.len l.bytes (omega (arith, l.short)) ∙ omega (arith, l.short))) }
+
+module _ {n : ℕ} {l m s : Held n} (x : ℕ) (same : s ≡ m) (last : Appends s ((48 + x % 10) ∷ []) l) where
+  pub decimal_more : {k : Held n} → 10 ≤ x → x < 2 ^ 64 → Appends k (decimal (x / 10)) m → Appends k (decimal x) l
   decimal_more h small front = appends_same (sym (decimal_step x h small)) (appends_more front (subst (λ z. Appends z ((48 + x % 10) ∷ []) l) same last))
 
   pub decimal_first : x < 10 → Appends m (decimal x) l
   decimal_first h = appends_same (ap (λ y. (48 + y) ∷ []) (mod-eq_of_lt h) ∙ sym (decimal_digit x h)) (subst (λ z. Appends z ((48 + x % 10) ∷ []) l) same last)
 
-pub held_small : (d : Digits) (i : ℕ) → get_or (held d) i 0 < 10
-held_small d i = elim (cases_lt i d.len) [
-  | inl h ↦ rw (get_or-take d.len d.symbols i 0 h) (d.small i)
-  | inr h ↦ rw (get_or_past (held d) i 0 (simp length-take (omega arith))) (omega arith)
-]
-
 pub length_number : (n : ℕ) → n < 2 ^ 64 → length (number n) ≤ 21
 length_number n h = omega (arith, length-decimal-le 20 n (omega arith) (omega arith) h)
 
 pub length_word : (d : Digits) → length (word d) ≤ 65
-length_word d = simp (length-map, length-take) (omega (arith, d.short))
+length_word d = simp (length-map, length-take) (omega (arith, d.symbols.short))

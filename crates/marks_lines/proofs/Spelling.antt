@@ -1,51 +1,58 @@
--- Symbols that a loop takes over one by one, each as the code f of the symbol.
---     Filled f cs i out     the first i codes of cs are those of the first i symbols of out, which has 64, each below 10
-use Rattle.std.proofs.Common.{◌≡◌, ℕ, zero, suc, ◌+◌, ◌<◌, ◌≤◌, ◌≢◌, List, map, length, get_or, take, set, replicate, sym, refl, ap, ◌∙◌, subst, inl, inr, le_antisymm, arith, below_more}
+-- Symbols that a loop takes over one by one from bytes.
+--     Taken gives bytes i s     s are the symbols that the first i bytes stand for, each below 10
+use Rattle.std.proofs.Common.{◌≡◌, ℕ, zero, suc, ◌+◌, ◌-◌, ◌<◌, List, [], ◌∷◌, ◌++◌, map, length, get_or, take, Some, None, Option, MatchOption, ap, ◌∙◌, sym, refl, inl, inr, arith, below_more}
 use Rattle.std.proofs.ByRecursion.{All-from_get_or, All-get_or}
-use Rattle.std.proofs.lemmas.List.{ext_get_or, get_or-map, get_or-set_same, get_or-set_other, get_or-take, length-map, length-set, length-take-le}
-use Rattle.std.proofs.lemmas.Bool.{cases_eq}
-use Rattle.marks_lines.specs.Symbols.{Symbols, digits}
+use Rattle.std.proofs.lemmas.List.{ext_get_or, get_or-append_right, get_or_append_left, get_or-map, get_or_push, length-append, length-map, length-take, take_all}
+use Rattle.std.proofs.lemmas.Bool.{cases_lt}
+use Rattle.marks_lines.specs.Symbols.{Symbols}
+use Rattle.marks_lines.specs.Held.{held}
+use Rattle.marks_lines.specs.declared.digits.Digits.{Digits}
 
-pub record Filled (f : ℕ → ℕ) (cs : List ℕ) (i : ℕ) (out : List ℕ) : Type 0 where
-  pub size : length out ≡ 64
-  pub small : (k : ℕ) → get_or out k 0 < 10
-  pub same : (k : ℕ) → k < i → get_or cs k 0 ≡ f (get_or out k 0)
+pub record Taken (gives : ℕ → Option ℕ → Type 0) (bytes : List ℕ) (i : ℕ) (s : List ℕ) : Type 0 where
+  pub size : length s ≡ i
+  pub small : (k : ℕ) → get_or s k 0 < 10
+  pub same : (k : ℕ) → k < i → gives (get_or bytes k 0) (Some (get_or s k 0))
 
-zeros_small : (n k : ℕ) → get_or (replicate n 0) k 0 < 10
-zeros_small zero k = omega arith
-zeros_small (suc n) zero = omega arith
-zeros_small (suc n) (suc k) = zeros_small n k
+pub taken_none : (gives : ℕ → Option ℕ → Type 0) (bytes : List ℕ) → Taken gives bytes 0 []
+taken_none gives bytes = record { size = refl; small = λ k. omega arith; same = λ k h. absurd (omega arith) }
 
-pub filled_none : (f : ℕ → ℕ) (cs : List ℕ) → Filled f cs 0 (replicate 64 0)
-filled_none f cs = record { size = refl; small = zeros_small 64; same = λ k h. absurd (omega arith) }
+module _ {gives : ℕ → Option ℕ → Type 0} {bytes s : List ℕ} {i v : ℕ} (w : Taken gives bytes i s) (room : i < 64) (small : v < 10) where
+  last_small : (k : ℕ) → get_or (v ∷ []) k 0 < 10
+  last_small zero = small
+  last_small (suc k) = omega arith
 
-pub filled_more : (f : ℕ → ℕ) (cs : List ℕ) (i v : ℕ) (out : List ℕ) → i < 64 → v < 10 → get_or cs i 0 ≡ f v → Filled f cs i out → Filled f cs (i + 1) (set out i v)
-filled_more f cs i v out h small e w = record {
-  size = length-set out i v ∙ w.size;
-  small = λ k. elim (cases_eq k i) [ inl p ↦ rw (p, here) small | inr p ↦ rw (get_or-set_other out i k v 0 p) (w.small k) ];
-  same = below_more _ _ (λ k l. let ne : k ≢ i = omega arith in rw (get_or-set_other out i k v 0 ne) (w.same k l)) (rw here e);
-}
-  where
-    here : get_or (set out i v) i 0 ≡ v
-    here = get_or-set_same out i v 0 (omega (arith, w.size))
+  longer_small : (k : ℕ) → get_or (s ++ v ∷ []) k 0 < 10
+  longer_small k = elim (cases_lt k (length s)) [
+    | inl h ↦ rw (get_or_append_left s (v ∷ []) 0 k h) (w.small k)
+    | inr h ↦ rw (get_or-append_right s (v ∷ []) (length s) k 0 refl h) (last_small (k - length s))
+  ]
 
-pub all_turns : {f : ℕ → ℕ} {cs : List ℕ} {i : ℕ} {out : List ℕ} → i ≤ length cs → length cs ≤ i → Filled f cs i out → Filled f cs (length cs) out
-all_turns {f} {cs} {i} {out} le ge w = subst (λ n. Filled f cs n out) (le_antisymm le ge) w
+  longer : gives (get_or bytes i 0) (Some v) → Taken gives bytes (i + 1) (s ++ v ∷ [])
+  longer e = record {
+    size = omega (arith, length-append s (v ∷ []), w.size);
+    small = longer_small;
+    same = below_more _ _ (λ k l. rw (get_or_append_left s (v ∷ []) 0 k (omega (arith, w.size))) (w.same k l)) (rw (get_or_push s v 0 i w.size) e);
+  }
 
-module _ (f : ℕ → ℕ) (cs : List ℕ) (out : List ℕ) (short : length cs ≤ 64) (w : Filled f cs (length cs) out) where
-  length_filled : length (take (length cs) out) ≡ length cs
-  length_filled = length-take-le (length cs) out (omega (arith, w.size))
+  pub taken_more : {t : List ℕ} → gives (get_or bytes i 0) (Some v) → t ≡ take 64 (s ++ v ∷ []) → Taken gives bytes (i + 1) t
+  taken_more {t} e new = rw (new, take_all 64 (s ++ v ∷ []) (omega (arith, length-append s (v ∷ []), w.size))) (longer e)
 
-  pub filled_symbols : Symbols (take (length cs) out)
-  filled_symbols = (omega (arith, length_filled), All-from_get_or (λ x. x < 10) (take (length cs) out) 0 (λ i h. rw (get_or-take (length cs) out i 0 (omega (arith, length_filled))) (w.small i)))
+pub lawful : (d : Digits) → Symbols (held d)
+lawful d = (simp length-take (omega (arith, d.symbols.short)), All-from_get_or (λ x. x < 10) (held d) 0 (λ i h. d.small i))
 
-  pub filled_all : cs ≡ map f (take (length cs) out)
-  filled_all = ext_get_or 0 cs (map f (take (length cs) out)) (sym (length-map (take (length cs) out) f ∙ length_filled)) (λ i h. w.same i h ∙ sym (get_or-map f (take (length cs) out) i 0 0 (omega (arith, length_filled)) ∙ ap f (get_or-take (length cs) out i 0 h)))
+pub by_cases : {N M : Type 0} {S T : Digits → Type 0} (o : Option Digits) → MatchOption o N S → (N → M) → ((d : Digits) → S d → T d) → MatchOption o M T
+by_cases (Some d) p none some = some d p
+by_cases None p none some = none p
 
-pub too_long : (cs : List ℕ) → 64 < length cs → (s : List ℕ) → Symbols s → cs ≡ digits s → ⊥
-too_long cs h s lawful e = omega (arith, lawful.0, ap length e, length-map s (λ x. 48 + x))
+-- Bytes that stand for symbols are the codes f of these.
+module _ (bytes : List ℕ) (f : ℕ → ℕ) where
+  pub coded : (s : List ℕ) → length s ≡ length bytes → ((i : ℕ) → i < length bytes → get_or bytes i 0 ≡ f (get_or s i 0)) → bytes ≡ map f s
+  coded s size same = ext_get_or 0 bytes (map f s) (sym (length-map s f ∙ size)) (λ i h. same i h ∙ sym (get_or-map f s i 0 0 (omega arith)))
 
-pub no_digit : (cs : List ℕ) (i : ℕ) → i < length cs → ((v : ℕ) → v < 10 → get_or cs i 0 ≡ 48 + v → ⊥) → (s : List ℕ) → Symbols s → cs ≡ digits s → ⊥
-no_digit cs i h none s lawful e =
-    let n : i < length s = omega (arith, ap length e, length-map s (λ x. 48 + x)) in
-    none (get_or s i 0) (All-get_or (λ x. x < 10) s i 0 n lawful.1) (ap (λ (t : List ℕ). get_or t i 0) e ∙ get_or-map (λ x. 48 + x) s i 0 0 n)
+  pub too_long : 64 < length bytes → (s : List ℕ) → Symbols s → bytes ≡ map f s → ⊥
+  too_long long s small e = omega (arith, small.0, ap length e, length-map s f)
+
+  pub no_code : (i : ℕ) → i < length bytes → ((v : ℕ) → v < 10 → get_or bytes i 0 ≡ f v → ⊥) → (s : List ℕ) → Symbols s → bytes ≡ map f s → ⊥
+  no_code i h none s small e =
+      let n : i < length s = omega (arith, ap length e, length-map s f) in
+      none (get_or s i 0) (All-get_or (λ x. x < 10) s i 0 n small.1) (ap (λ (t : List ℕ). get_or t i 0) e ∙ get_or-map f s i 0 0 n)

@@ -1,57 +1,53 @@
 // Up to 64 symbols, each of which one digit writes.
-ghost use Rattle.std.specs.Prelude.{◌≡◌, ℕ, ◌+◌, ◌<◌, ◌≤◌, List, take, MatchOption, ◌≢◌, slice_index};
-ghost use Rattle.marks_lines.specs.Symbols.{Symbols, digits as digits_of};
+ghost use Rattle.std.specs.Prelude.{◌≡◌, ℕ, ◌+◌, ◌<◌, MatchOption, ◌≢◌, slice_index, take};
 
-#[derive(Clone, Copy)]
+use crate::held::Held;
+
+#[derive(Clone, Copy, Debug, PartialEq, Eq)]
 pub struct Digits {
-    symbols: [u8; 64],
-    len: usize,
-    ghost short: { len ≤ 64 },
-    ghost small: { (i : ℕ) → slice_index symbols i < 10 },
+    symbols: Held<64>,
+    ghost small: { (i : ℕ) → slice_index (take symbols.len symbols.bytes) i < 10 },
 }
 
 impl Digits {
+    ghost use Rattle.std.specs.Prelude.{◌≡◌, ℕ, ◌<◌, List, MatchOption, Some, ◌≢◌};
+    ghost use Rattle.marks_lines.specs.Held.{held};
+    ghost use Rattle.marks_lines.specs.Symbols.{Stand, Stray, Symbols, digits as digits_of};
+
     // These symbols, unless there are too many or one is too large.
     pub fn new(symbols: &[u8]) -> Option<Digits>
-        ensures { MatchOption result (Symbols symbols.now → ⊥) (λ d. Symbols symbols.now × (symbols.now ≡ take d.len d.symbols)) }
+        ensures { MatchOption result (Symbols symbols.now → ⊥) (λ d. Symbols symbols.now × (symbols.now ≡ held d)) }
     {
-        if symbols.len() > 64 {
-            return None;
-        }
-        let mut held = [0; 64];
-        for i in 0..symbols.len() {
-            if symbols[i] > 9 {
-                return None;
-            }
-            held[i] = symbols[i];
-        }
-        Some(Digits {
-            symbols: held,
-            len: symbols.len(),
-        })
+        Digits::collect(symbols, |symbol| (symbol < 10).then_some(symbol))
     }
 
     // The symbols whose digits these codes are, if they are digits and not too many.
     pub(crate) fn read(codes: &[u8]) -> Option<Digits>
-        ensures { MatchOption result ((s : List ℕ) → Symbols s → codes.now ≢ digits_of s) (λ d. Symbols (take d.len d.symbols) × (codes.now ≡ digits_of (take d.len d.symbols))) }
+        ensures { MatchOption result ((s : List ℕ) → Symbols s → codes.now ≢ digits_of s) (λ d. Symbols (held d) × (codes.now ≡ digits_of (held d))) }
     {
-        if codes.len() > 64 {
+        Digits::collect(codes, digit)
+    }
+
+    // The symbols that these bytes stand for, if each stands for one and they are not too many.
+    fn collect<F: Fn(u8) -> Option<u8>>(bytes: &[u8], symbol: F) -> Option<Digits>
+        requires callable { F.IsAlwaysCallable symbol }
+        requires small { (b s : ℕ) → b < 256 → F.post symbol b (Some s) → s < 10 }
+        ensures { MatchOption result (Stray (F.post symbol) bytes.now) (λ d. Stand (F.post symbol) bytes.now (held d)) }
+    {
+        if bytes.len() > 64 {
             return None;
         }
-        let mut held = [0; 64];
-        for i in 0..codes.len() {
-            held[i] = digit(codes[i])?;
+        let mut symbols = Held::new();
+        for byte in bytes {
+            symbols.push(symbol(*byte)?);
         }
-        Some(Digits {
-            symbols: held,
-            len: codes.len(),
-        })
+        Some(Digits { symbols })
     }
 
     pub fn as_slice(&self) -> &[u8]
-        ensures { result.now ≡ take self.now.len self.now.symbols }
+        ensures { result.now ≡ held self.now }
     {
-        &self.symbols[..self.len]
+        self.symbols.as_slice()
     }
 }
 

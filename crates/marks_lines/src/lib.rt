@@ -2,6 +2,7 @@
 #![tactic(auto)]
 
 mod digits;
+mod held;
 mod line;
 mod pending;
 mod reply;
@@ -10,7 +11,8 @@ mod request;
 mod tests;
 
 pub use digits::Digits;
+pub use held::Held;
 pub use line::Line;
 pub use pending::Pending;
-pub use reply::{Reply, show};
+pub use reply::{Answer, Declined, Reply, show};
 pub use request::{Request, parse};

@@ -1,13 +1,13 @@
 // The line that answers.
 ghost use Rattle.std.specs.Prelude.{◌≡◌, ◌<◌, length};
 ghost use Rattle.marks_lines.specs.Held.{Appends, text};
-ghost use Rattle.marks_lines.specs.Replies.{answer, shown};
+ghost use Rattle.marks_lines.specs.Replies.{declined, shown, told};
 
 use crate::digits::Digits;
 use crate::line::Line;
 
-#[derive(Clone, Copy)]
-pub enum Reply {
+#[derive(Clone, Copy, Debug, PartialEq, Eq)]
+pub enum Answer {
     Loaded {
         k: usize,
         rows: usize,
@@ -20,52 +20,69 @@ pub enum Reply {
         message: Digits,
     },
     Cleared,
+}
+
+// Why there is no answer: an unknown line, or a refusal by its number, any of which a line can show.
+#[derive(Clone, Copy, Debug, PartialEq, Eq)]
+pub enum Declined {
     Refused(u8),
     Unknown,
 }
+
+pub type Reply = Result<Answer, Declined>;
 
 // The line of a reply, with its end.
 pub fn show(reply: &Reply) -> Line
     ensures { text result ≡ shown reply.now }
 {
     let mut line = Line::new();
-    write(reply, &mut line);
+    match reply {
+        Ok(answer) => answer.write(&mut line),
+        Err(declined) => declined.write(&mut line),
+    }
     line.push(b'\n');
     line
 }
 
-// Writes the reply without its end.
-fn write(reply: &Reply, line: &mut Line)
-    ensures appended { Appends line.old (answer reply.now) line.new }
-    ensures short { length (answer reply.now) < 192 }
-{
-    match reply {
-        Reply::Loaded { k, rows } => {
-            line.text(b"ok");
-            line.number(*k);
-            line.number(*rows);
+impl Answer {
+    fn write(&self, line: &mut Line)
+        ensures appended { Appends line.old (told self.now) line.new }
+        ensures short { length (told self.now) < 192 }
+    {
+        line.extend(b"ok");
+        match self {
+            Answer::Loaded { k, rows } => {
+                line.number(*k);
+                line.number(*rows);
+            }
+            Answer::Written(mark) => line.word(mark),
+            Answer::ReadBack {
+                wrong,
+                turns,
+                mended,
+                message,
+            } => {
+                line.number(usize::from(*wrong));
+                line.number(usize::from(*turns));
+                line.word(mended);
+                line.word(message);
+            }
+            Answer::Cleared => {}
         }
-        Reply::Written(mark) => {
-            line.text(b"ok");
-            line.word(mark);
+    }
+}
+
+impl Declined {
+    fn write(&self, line: &mut Line)
+        ensures appended { Appends line.old (declined self.now) line.new }
+        ensures short { length (declined self.now) < 192 }
+    {
+        match self {
+            Declined::Refused(refusal) => {
+                line.extend(b"no");
+                line.number(usize::from(*refusal));
+            }
+            Declined::Unknown => line.push(b'?'),
         }
-        Reply::ReadBack {
-            wrong,
-            turns,
-            mended,
-            message,
-        } => {
-            line.text(b"ok");
-            line.number(usize::from(*wrong));
-            line.number(usize::from(*turns));
-            line.word(mended);
-            line.word(message);
-        }
-        Reply::Cleared => line.text(b"ok"),
-        Reply::Refused(refusal) => {
-            line.text(b"no");
-            line.number(usize::from(*refusal));
-        }
-        Reply::Unknown => line.push(b'?'),
     }
 }

@@ -1,6 +1,6 @@
 -- Checks one after another: what a list of checks and one more list say together.
-use Rattle.std.proofs.Common.{List, [], ◌∷◌, ◌++◌, inl, inr}
-use Rattle.algebra.specs.Checks.{Check, Passed, Refused}
+use Rattle.std.proofs.Common.{List, [], ◌∷◌, ◌++◌, Ok, Err, Result, inl, inr}
+use Rattle.algebra.specs.Checks.{Check, Judged, Passed, Refused}
 use Rattle.algebra.specs.declared.fault.Fault.{Fault}
 
 pub refused_before : (cs ds : List Check) (f : Fault) → Refused cs f → Refused (cs ++ ds) f
@@ -15,3 +15,7 @@ refused_after (c ∷ cs) ds f (asks, passed) later = inr (asks, refused_after cs
 pub passed_both : (cs ds : List Check) → Passed cs → Passed ds → Passed (cs ++ ds)
 passed_both [] ds passed more = more
 passed_both (c ∷ cs) ds (asks, passed) more = (asks, passed_both cs ds passed more)
+
+pub judged_after : (cs ds : List Check) (r : Result (Unit {0}) Fault) → Passed cs → Judged ds r (λ _. Unit {0}) → Judged (cs ++ ds) r (λ _. Unit {0})
+judged_after cs ds (Ok x) passed (more, _) = (passed_both cs ds passed more, tt)
+judged_after cs ds (Err f) passed later = refused_after cs ds f passed later

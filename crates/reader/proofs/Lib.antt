@@ -1,3 +1,4 @@
+pub mod BufferChecks
 pub mod CheckLists
 pub mod InForce
 pub mod Loading

@@ -1,7 +1,7 @@
 -- What the checks of a load tell, and what a load leaves. Here w is what is stored of the word e.
 --     Sizes k g e t         e and t pass the checks of sizes, which come first
-use Rattle.std.proofs.Common.{◌≡◌, ℕ, ◌≤◌, List, [], ◌∷◌, length, Some, Option, sym, refl, ap, ◌∙◌, subst, ap₂, inl, inr, ⊎_elim}
-use Rattle.algebra.specs.Checks.{Passed, Refused, asked}
+use Rattle.std.proofs.Common.{◌≡◌, ℕ, ◌≤◌, List, [], ◌∷◌, length, Some, Option, sym, refl, ap, ◌∙◌, subst, ap₂, inl, inr}
+use Rattle.algebra.specs.Checks.{Check, Passed, Refused, asked}
 use Rattle.algebra.specs.Fields.{Symbols}
 use Rattle.algebra.specs.Groups.{Dots}
 use Rattle.algebra.specs.Refusals.{book_refused, close_refused, radius_refused}
@@ -17,11 +17,14 @@ use Rattle.reader.specs.Loads.{Passes, central_check, idempotent_check, load_che
 use Rattle.codes.specs.Bases.{basis_dots}
 use Rattle.reader.specs.Stored.{Lived, SoundCode}
 use Rattle.reader.specs.declared.code.Code.{Code}
+use Rattle.reader.proofs.CheckLists.{refused_after, refused_before}
 use Rattle.reader.proofs.Refusing.{load_fails}
 
+abbrev size_checks : Symbols → Dots → List ℕ → ℕ → List Check
+size_checks k g e t = length_check (length e) g.order 0 ∷ range_check k.order e ∷ asked (t ≤ 3) radius_refused ∷ asked (rows g.order k.order t ≤ 4096) book_refused ∷ []
+
 abbrev pub Sizes : Symbols → Dots → List ℕ → ℕ → Type 0
-Sizes k g e t =
-    Passed (length_check (length e) g.order 0 ∷ range_check k.order e ∷ asked (t ≤ 3) radius_refused ∷ asked (rows g.order k.order t ≤ 4096) book_refused ∷ [])
+Sizes k g e t = Passed (size_checks k g e t)
 
 module _ (k : Symbols) (g : Dots) (w : Word) (e : List ℕ) (t : ℕ) (same : word g.order w ≡ e) (sizes : Sizes k g e t) where
   abbrev v : List ℕ
@@ -37,23 +40,22 @@ module _ (k : Symbols) (g : Dots) (w : Word) (e : List ℕ) (t : ℕ) (same : wo
   unfolding times
   keeps square = (lawful, word_ext (times k g v v) v (length_tabulate _ _) lawful.0 square)
 
+  abbrev last_checks : List Check
+  last_checks = central_check k g v ∷ asked (TooClose k g v t → ⊥) close_refused ∷ []
+
+  after_sizes : (f : Fault) → Refused (idempotent_check k g v ∷ last_checks) f → Refused (load_checks k g e t) f
+  after_sizes f later =
+      subst (λ u. Refused (load_checks k g u t) f) same (refused_after (size_checks k g v t) (idempotent_check k g v ∷ last_checks) f sizes_stored later)
+
   pub not_idempotent : (f : Fault) → Refused (idempotent_check k g v ∷ []) f → Refused (load_checks k g e t) f
-  not_idempotent f fails =
-      let s = sizes_stored in
-      subst (λ u. Refused (load_checks k g u t) f) same
-      (inr (s.0, inr (s.1.0, inr (s.1.1.0, inr (s.1.1.1.0, ⊎_elim inl (λ x. absurd x.1) fails)))))
+  not_idempotent f fails = after_sizes f (refused_before (idempotent_check k g v ∷ []) last_checks f fails)
 
   pub not_central : (f : Fault) → (idempotent_check k g v).asks → Refused (central_check k g v ∷ []) f → Refused (load_checks k g e t) f
   not_central f square fails =
-      let s = sizes_stored in
-      subst (λ u. Refused (load_checks k g u t) f) same
-      (inr (s.0, inr (s.1.0, inr (s.1.1.0, inr (s.1.1.1.0, inr (square, ⊎_elim inl (λ x. absurd x.1) fails))))))
+      after_sizes f (inr (square, refused_before (central_check k g v ∷ []) (asked (TooClose k g v t → ⊥) close_refused ∷ []) f fails))
 
   pub close : (idempotent_check k g v).asks → (central_check k g v).asks → TooClose k g v t → Refused (load_checks k g e t) close_refused
-  close square central near =
-      let s = sizes_stored in
-      subst (λ u. Refused (load_checks k g u t) close_refused) same
-      (inr (s.0, inr (s.1.0, inr (s.1.1.0, inr (s.1.1.1.0, inr (square, inr (central, inl ((λ far. far near), refl))))))))
+  close square central near = after_sizes close_refused (inr (square, inr (central, inl ((λ far. far near), refl))))
 
   pub passes : (idempotent_check k g v).asks → (central_check k g v).asks → (TooClose k g v t → ⊥) → Passes k g v t
   passes square central far =

@@ -1,10 +1,9 @@
 -- Words as a reader stores them: from a list of symbols, and the word with a single 1.
-use Rattle.std.proofs.Common.{◌≡◌, ℕ, ◌<◌, ◌≤◌, cond, eqb, List, length, set, replicate, sym, refl, ap, ◌∙◌, ⊎_elim, arith, length-set, get_or-set_other, get_or-set_same}
-use Rattle.std.proofs.lemmas.Bool.{cases_eq, cases_lt, cond-false, cond-true, eq-eqb, ne_eqb}
+use Rattle.std.proofs.Common.{◌≡◌, ℕ, ◌<◌, ◌≤◌, cond, eqb, List, length, sym, ap, ◌∙◌, ⊎_elim, arith}
+use Rattle.std.proofs.lemmas.Bool.{cases_lt, cond-false, ne_eqb}
 use Rattle.words.specs.Stored.{Stores}
 use Rattle.words.specs.Words.{at, tabulate}
 use Rattle.words.specs.declared.word.Word.{Word}
-use Rattle.words.proofs.Stored.{filled_none}
 use Rattle.words.proofs.Tabulate.{at_past, at_tabulate, at_tabulate_past, tabulate_ext, tabulate_is}
 use Rattle.reader.specs.Loads.{unit}
 
@@ -17,25 +16,15 @@ of_stores n e r few size made = record {
     same : (d : ℕ) → d < 64 → at r.symbols d ≡ at e d
     same d h = ap (λ s. at s d) made ∙ at_tabulate 64 (at e) d h
 
-pub unit_stores : (d : ℕ) (r : Word) → d < 64 → r.symbols ≡ tabulate 64 (at (set (replicate 64 0) d 1)) → (n : ℕ) → d < n → Stores n r (unit n d)
+pub unit_stores : (d : ℕ) (r : Word) (marks : List ℕ) → ((x : ℕ) → x < 64 → at marks x ≡ cond (eqb x d) 1 0) → r.symbols ≡ tabulate 64 (at marks) → (n : ℕ) → n ≤ 64 → d < n → Stores n r (unit n d)
 unfolding unit
-unit_stores d r small made n below = record {
-  value = tabulate_ext n _ _ (λ x h. at_made x ∙ marked x);
-  rest = λ x h. at_made x ∙ marked x ∙ cond-false (eqb x d) 1 0 (ne_eqb x d (λ e. omega arith));
+unit_stores d r marks marked made n few below = record {
+  value = tabulate_ext n _ _ (λ x h. same x (omega arith));
+  rest = λ x h. ⊎_elim
+      (λ l. same x l ∙ cond-false (eqb x d) 1 0 (ne_eqb x d (λ e. omega arith)))
+      (λ l. ap (λ s. at s x) made ∙ at_tabulate_past 64 (at marks) x l)
+      (cases_lt x 64);
 }
   where
-    marks : List ℕ
-    marks = set (replicate 64 0) d 1
-
-    size : length marks ≡ 64
-    size = length-set (replicate 64 0) d 1
-
-    at_made : (x : ℕ) → at r.symbols x ≡ at marks x
-    at_made x = ap (λ s. at s x) (made ∙ sym (tabulate_is 64 (at marks) marks size (λ y h. refl)))
-
-    marked : (x : ℕ) → at marks x ≡ cond (eqb x d) 1 0
-    marked x =
-        ⊎_elim
-        (λ e. rw e (get_or-set_same (replicate 64 0) d 1 0 small ∙ sym (cond-true (eqb d d) 1 0 (eq-eqb d d refl))))
-        (λ ne. get_or-set_other (replicate 64 0) d x 1 0 ne ∙ (filled_none (λ _. 0)).rest x (omega arith) ∙ sym (cond-false (eqb x d) 1 0 (ne_eqb x d ne)))
-        (cases_eq x d)
+    same : (x : ℕ) → x < 64 → at r.symbols x ≡ cond (eqb x d) 1 0
+    same x h = ap (λ s. at s x) made ∙ at_tabulate 64 (at marks) x h ∙ marked x h

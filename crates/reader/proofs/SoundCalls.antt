@@ -1,17 +1,16 @@
 -- What the calls answer, by the code that a reader holds.
-use Rattle.std.proofs.Common.{◌≡◌, ℕ, ◌<◌, ◌≤◌, List, [], ◌∷◌, length, Some, Ok, Err, Option, Result, sym, refl, ap, ◌∙◌, subst, inl, inr, arith}
-use Rattle.algebra.specs.Checks.{Check, Judged, Passed, Refused, asked}
+use Rattle.std.proofs.Common.{◌≡◌, ℕ, ◌<◌, ◌≤◌, List, [], ◌∷◌, length, Some, Ok, Err, sym, refl, ap, ◌∙◌, subst, inl, arith}
+use Rattle.algebra.specs.Checks.{Check, Passed, Refused, asked}
 use Rattle.algebra.specs.Fields.{Symbols, FieldLaws}
 use Rattle.algebra.specs.Groups.{Dots, GroupLaws}
 use Rattle.algebra.specs.Refusals.{reach_refused}
 use Rattle.algebra.specs.declared.fault.Fault.{Fault}
 use Rattle.words.specs.Buffers.{length_check, range_check}
 use Rattle.words.specs.Stored.{Stores, word}
-use Rattle.words.specs.Turns.{LeastTurn, alike_checks}
 use Rattle.words.specs.Words.{at, Lawful, less, syndrome, tabulate, weight}
 use Rattle.words.specs.declared.word.Word.{Word}
 use Rattle.words.proofs.Weights.{nought_from_weight, weight_nought}
-use Rattle.reader.specs.Calls.{Alikes, Reads, Syndromes, Writes}
+use Rattle.reader.specs.Calls.{Reads, Syndromes, Writes}
 use Rattle.codes.specs.GroupCodes.{WrittenAs}
 use Rattle.codes.specs.GroupCodes.{Pattern, TooClose, TurnCount, chosen}
 use Rattle.codes.specs.Bases.{BasisOf, basis_dots}
@@ -31,15 +30,6 @@ lawful_from_checks k n w size range = (size, λ d h. range d (omega arith))
 copied : (n : ℕ) (w b b' : List ℕ) (s : Word) → length b ≡ n → word n s ≡ w → b' ≡ tabulate (length b) (at s.symbols) → b' ≡ w
 copied n w b b' s size value copy = copy ∙ ap (λ x. tabulate x (at s.symbols)) size ∙ value
 
--- the comparison asks the lengths once more, and they are right
-pub alike_again : (k : Symbols) (g : Dots) (u v : List ℕ) (r : Result (Option ℕ) Fault) → length u ≡ g.order → length v ≡ g.order → ((i : ℕ) → i < length u → at u i < k.order) → ((i : ℕ) → i < length v → at v i < k.order) → Judged (alike_checks g.order (length u) (length v)) r (LeastTurn g u v) → Alikes k g u v r
-alike_again k g u v (Ok o) lu lv ru rv (_, least) = ((lu, (lv, (ru, (rv, tt)))), least)
-alike_again k g u v (Err f) lu lv ru rv refused = elim refused [
-  | inl (fails, _) ↦ absurd (fails lu)
-  | inr (_, inl (fails, _)) ↦ absurd (fails lv)
-  | inr (_, inr (_, none)) ↦ absurd none
-]
-
 pub syndrome_copied : (k : Symbols) (g : Dots) → GroupLaws g → (c : Code) (w b b' : List ℕ) (mark s : Word) → Passed (length_check (length w) g.order 0 ∷ length_check (length b) g.order 1 ∷ range_check k.order w ∷ []) → mark.symbols ≡ tabulate 64 (at w) → Stores g.order s (syndrome k g (word g.order c.word) (word g.order mark)) → b' ≡ tabulate (length b) (at s.symbols) → Syndromes k g (code_of g.order (Some c)) w b (Ok tt) b'
 syndrome_copied k g group c w b b' mark s passed of stores copy =
     ((passed, copied g.order _ b b' s passed.1.0 (stores.value ∙ ap (syndrome k g (word g.order c.word)) (of_stores g.order w mark group.most passed.0 of).value) copy), tt)
@@ -57,6 +47,14 @@ module _ {k : Symbols} {g : Dots} (c : Code) (sound : SoundCode k g c) where
         ),
         tt,
       )
+
+  pub write_refused : (m w : List ℕ) (f : Fault) → Refused (length_check (length m) c.basis.count 0 ∷ length_check (length w) g.order 1 ∷ range_check k.order m ∷ []) f → Writes k g (code_of g.order (Some c)) m w (Err f) w
+  write_refused m w f refused = (
+    basis_dots c.basis,
+    sound.basis.dots,
+    subst (λ x. Refused (length_check (length m) x 0 ∷ length_check (length w) g.order 1 ∷ range_check k.order m ∷ []) f) (sym sound.basis.many) refused,
+    refl,
+  )
 
   abbrev first_checks : ℕ → List ℕ → List ℕ → List ℕ → List Check
   first_checks x r b m = length_check (length r) g.order 0 ∷ length_check (length b) g.order 1 ∷ length_check (length m) x 2 ∷ range_check k.order r ∷ []
@@ -101,13 +99,18 @@ module _ {k : Symbols} {g : Dots} (c : Code) (sound : SoundCode k g c) where
         search e c.radius r (passes_lawful k g e c.radius sound.passes) (lawful_from_checks k g.order r size range) sound.book apart
         (subst (λ w. Stores g.order s (syndrome k g e w)) received_stored stores)
 
-    pub read_mended : (p whole : Word) (wrong turns : ℕ) (a : ReadRecord) (b' m' : List ℕ) → Pattern k g (word g.order c.word) c.radius r (word g.order p) → TurnCount g (word g.order p) turns → Stores g.order whole (less k g.order (word g.order mark) (word g.order p)) → wrong ≡ weight (word g.order p) → (wrong ≤ 3 → (wrong ≡ 0 → turns ≡ 0) → (turns ≡ 0 → wrong ≡ 0) → (a.wrong ≡ wrong) × (a.turns ≡ turns)) → b' ≡ tabulate (length b) (at whole.symbols) → m' ≡ chosen (basis_dots c.basis) (word g.order whole) → Reads k g (code_of g.order (Some c)) r b m (Ok a) b' m'
-    read_mended p whole wrong turns a b' m' pattern count stores weighed recorded copy message =
+    -- the record of the pattern p can be made
+    pub recorded : (p : List ℕ) (turns : ℕ) → Pattern k g (word g.order c.word) c.radius r p → TurnCount g p turns → (weight p ≤ 3) × (weight p ≡ 0 → turns ≡ 0) × (turns ≡ 0 → weight p ≡ 0)
+    recorded p turns pattern count = (
+      omega (arith, few, pattern.1),
+      λ z. turn_count_of_nought group p turns count (nought_from_weight g.order p pattern.0.0 z),
+      λ z. ap weight (nought_from_turn_count group p turns count z) ∙ weight_nought g.order,
+    )
+
+    pub read_mended : (p whole : Word) (a : ReadRecord) (b' m' : List ℕ) → Pattern k g (word g.order c.word) c.radius r (word g.order p) → TurnCount g (word g.order p) a.turns → Stores g.order whole (less k g.order (word g.order mark) (word g.order p)) → a.wrong ≡ weight (word g.order p) → b' ≡ tabulate (length b) (at whole.symbols) → m' ≡ chosen (basis_dots c.basis) (word g.order whole) → Reads k g (code_of g.order (Some c)) r b m (Ok a) b' m'
+    read_mended p whole a b' m' pattern count stores weighed copy message =
         let q = word g.order p in
         let e = word g.order c.word in
-        let made : (a.wrong ≡ wrong) × (a.turns ≡ turns) = recorded (omega (arith, few, pattern.1))
-        (λ z. turn_count_of_nought group q turns count (nought_from_weight g.order q pattern.0.0 (sym weighed ∙ z)))
-        (λ z. weighed ∙ ap weight (nought_from_turn_count group q turns count z) ∙ weight_nought g.order) in
         let taken : b' ≡ word g.order whole = copied g.order _ b b' whole passed.1.0 refl copy in (
           basis_dots c.basis,
           sound.basis.dots,
@@ -118,8 +121,8 @@ module _ {k : Symbols} {g : Dots} (c : Code) (sound : SoundCode k g c) where
               record {
                 pattern = pattern;
                 only = λ o other. pattern_unique field group e (passes_lawful k g e c.radius sound.passes) c.radius apart r o q other pattern;
-                wrong = made.0 ∙ weighed;
-                turns = subst (TurnCount g q) (sym made.1) count;
+                wrong = weighed;
+                turns = count;
                 mended = taken ∙ stores.value ∙ ap (λ w. less k g.order w q) received_stored;
                 message = message ∙ ap (chosen (basis_dots c.basis)) (sym taken);
               },

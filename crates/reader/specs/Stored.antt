@@ -1,4 +1,5 @@
 -- What a reader holds of a code, and when it is right, over a field k and a group g of n dots.
+--     Held F G              what a reader over the types F and G holds, as the clauses have it
 --     SoundCode k g c       c is a code that passed its load, with its own basis and book
 --     Sound k g o           so is the code that is stored, if there is one
 --     code_of n o           the code that is stored, if there is one
@@ -7,12 +8,17 @@ use Rattle.std.specs.Prelude.{ℕ, List, Some, None, Option}
 use Rattle.algebra.specs.Fields.{Symbols}
 use Rattle.algebra.specs.Groups.{Dots}
 use Rattle.words.specs.Stored.{word}
+use Rattle.words.specs.declared.group_algebra.GroupAlgebra.{GroupAlgebra}
 use Rattle.codes.specs.Bases.{BasisOf}
 use Rattle.books.specs.Books.{BookOf}
 use Rattle.reader.specs.Calls as calls
 use Rattle.reader.specs.Histories.{Call, InForce}
 use Rattle.reader.specs.Loads.{Passes}
 use Rattle.reader.specs.declared.code.Code.{Code}
+
+pub record Held (F G : Type 0) : Type 0 where
+  pub algebra : GroupAlgebra F G
+  pub code : Option Code
 
 pub record SoundCode (k : Symbols) (g : Dots) (c : Code) : Type 0 where
   pub passes : Passes k g (word g.order c.word) c.radius

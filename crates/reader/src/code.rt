@@ -1,4 +1,7 @@
 // A code that a reader holds: its word, its radius, its basis and its book.
+mod judge;
+mod uses;
+
 use books::Book;
 use codes::Basis;
 use words::Word;

@@ -1,6 +1,7 @@
 // Reading and writing marks: words of a group code.
 #![tactic(auto)]
 
+mod checks;
 mod code;
 mod reader;
 mod record;

@@ -1,4 +1,5 @@
 // What a read tells: how many dots were wrong, and how far the mark had to be turned to find them.
+// The rules have turns as a count too: 0 where nothing was wrong.
 ghost use Rattle.std.specs.Prelude.{◌≡◌, ◌≤◌};
 
 #[derive(Clone, Copy, PartialEq, Eq, Debug)]

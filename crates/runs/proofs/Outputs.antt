@@ -1,6 +1,6 @@
 -- The outputs of a call: zeros before it, and what a reply has of them after it.
-use Rattle.std.proofs.Common.{◌≡◌, ℕ, zero, suc, ◌-◌, ◌<◌, ◌≤◌, min, List, [], length, get_or, take, drop, replicate, Option, Result, sym, ap, ◌∙◌, subst, arith}
-use native.Mathlib.Nat.{min-eq_left, min-le_right, sub-zero}
+use Rattle.std.proofs.Common.{◌≡◌, ℕ, zero, suc, ◌<◌, ◌≤◌, min, List, length, IsOkAnd, MatchResult, Ok, Err, get_or, take, replicate, Option, Result, sym, ap, ◌∙◌, subst, arith}
+use native.Mathlib.Nat.{min-eq_left, min-le_right}
 use lib.ListN.{length-replicate}
 use Rattle.std.proofs.lemmas.List.{get_or-take, length-take-le, take-replicate}
 use Rattle.algebra.specs.Fields.{Symbols}
@@ -8,18 +8,19 @@ use Rattle.algebra.specs.Groups.{Dots}
 use Rattle.algebra.specs.declared.fault.Fault.{Fault}
 use Rattle.words.specs.Words.{at, tabulate}
 use Rattle.words.proofs.Tabulate.{at_tabulate, length_tabulate, word_ext}
-use Rattle.reader.specs.Calls.{Code, Reads, Syndromes, Writes}
+use Rattle.reader.specs.Calls.{Code, Reads}
 use Rattle.codes.specs.GroupCodes.{Rising}
-use Rattle.reader.specs.Histories.{Call, ReadLaw, ReadsLawfully, find_syndrome, read, write}
+use Rattle.reader.specs.Histories.{Call, ReadLaw, ReadsLawfully, read}
 use Rattle.runs.specs.Runs.{ReadFaithfully, Served, carried, reply, zeros}
 use Rattle.reader.specs.declared.record.ReadRecord.{ReadRecord}
-use Rattle.runs.specs.declared.runs.Answer.TheVariants.{Mended, Syndrome, Written}
+use Rattle.runs.specs.declared.runs.Answer.{Answer}
+use Rattle.runs.specs.declared.runs.Answer.TheVariants.{Mended}
 use Rattle.runs.specs.declared.runs.Reply.{Reply}
 
-pub cut_zeros : (m r : ℕ) → r ≡ min m 65 → take (r - 0) (drop 0 (replicate 65 0)) ≡ zeros m
+pub cut_zeros : (m r : ℕ) → r ≡ min m 65 → take r (replicate 65 0) ≡ zeros m
 cut_zeros m r e =
     let most : r ≤ 65 = subst (λ x. x ≤ 65) (sym e) (min-le_right m 65) in
-    ap (λ x. take x (replicate 65 0)) (sub-zero r) ∙ take-replicate r 65 0 most ∙ ap (λ x. replicate x 0) e
+    take-replicate r 65 0 most ∙ ap (λ x. replicate x 0) e
 
 zeros_long : (m : ℕ) (b : List ℕ) → b ≡ zeros m → m ≤ 64 → length b ≡ m
 zeros_long m b e most = ap length e ∙ length-replicate (min m 65) 0 ∙ min-eq_left (omega arith)
@@ -43,15 +44,13 @@ rising_few ds n rising below (suc m) e =
     let from = rising_from ds rising m (omega arith) in
     let last = below m (omega arith) in omega arith
 
+pub carried_mapped : {X : Type 0} (f : X → Answer) (r : Result X Fault) (s : Result Answer Fault) (P : X → Answer → Type 0) → MatchResult r (λ x. IsOkAnd s (P x)) (λ e. s ≡ Err e)
+    → ((x : X) (y : Answer) → P x y → y ≡ f x) → s ≡ carried f r
+carried_mapped f (Ok x) (Ok y) P called gives = ap Ok (gives x y called)
+carried_mapped f (Ok x) (Err e) P none gives = absurd none
+carried_mapped f (Err e) s P is gives = is
+
 module _ (k : Symbols) (g : Dots) (c : Option Code) where
-  pub write_served : (m : List ℕ) (b : ℕ) (b₀ : List ℕ) (r : Result (Unit {0}) Fault) (w : List ℕ) (y : Reply) → b₀ ≡ zeros b
-      → y ≡ reply (carried (λ _. Written) r) w [] → Writes k g c m b₀ r w → Served k g c (write m b) y
-  write_served m b b₀ r w y eb ey told = (r, w, subst (λ z. Writes k g c m z r w) eb told, ey)
-
-  pub syndrome_served : (w : List ℕ) (b : ℕ) (b₀ : List ℕ) (r : Result (Unit {0}) Fault) (s : List ℕ) (y : Reply) → b₀ ≡ zeros b
-      → y ≡ reply (carried (λ _. Syndrome) r) s [] → Syndromes k g c w b₀ r s → Served k g c (find_syndrome w b) y
-  syndrome_served w b b₀ r s y eb ey told = (r, s, subst (λ z. Syndromes k g c w z r s) eb told, ey)
-
   pub read_served : (r : List ℕ) (b m : ℕ) (b₀ m₀ : List ℕ) (a : Result ReadRecord Fault) (w v : List ℕ) (y : Reply) → b₀ ≡ zeros b → m₀ ≡ zeros m
       → y ≡ reply (carried Mended a) w v → Reads k g c r b₀ m₀ a w v → Served k g c (read r b m) y
   read_served r b m b₀ m₀ a w v y eb em ey told =

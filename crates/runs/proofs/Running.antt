@@ -5,7 +5,7 @@ use Rattle.algebra.specs.Fields.{Symbols}
 use Rattle.algebra.specs.Groups.{Dots}
 use Rattle.reader.specs.Histories as past
 use Rattle.runs.specs.Runs.{ReadFaithfully, RunsLawfully, Served, call_at, history, reply_at, spoken}
-use Rattle.reader.specs.Stored.{Lived, Sound, code_of}
+use Rattle.reader.specs.Stored.{Lived, code_of}
 use Rattle.reader.specs.declared.code.Code.{Code}
 use Rattle.runs.specs.declared.runs.Call.{Call}
 use Rattle.runs.specs.declared.runs.Call.TheVariants.{Clear}
@@ -35,7 +35,7 @@ module _ (k : Symbols) (g : Dots) (xs : List Call) where
     -- what a call promises
     abbrev Step : past.Call → Type 0
     Step x =
-        (Sound k g o → Served k g (code_of g.order o) x y) × ((past : List past.Call) → Lived k g past o → Lived k g (x ∷ past) o')
+        Served k g (code_of g.order o) x y × ((past : List past.Call) → Lived k g past o → Lived k g (x ∷ past) o')
         × ((past : List past.Call) → Lived k g past o → ReadFaithfully k g past x y)
 
     pub ran_more : (x : Call) → x ≡ get_or xs i Clear → Step (spoken x) → Ran k g xs ys₀ (set ys i y) o' (i + 1)
@@ -48,7 +48,7 @@ module _ (k : Symbols) (g : Dots) (xs : List Call) where
             served = below_more _ i
                 (λ j lt c force. subst (Served k g c (call_at xs j)) (old j (λ e. omega arith)) (before.lawful.served j lt c force))
                 (λ c force. subst (Served k g c (call_at xs i)) new
-                (subst (λ c. Served k g c (call_at xs i) y) (in_force_unique before.lived.0 force) (answer before.lived.1)));
+                (subst (λ c. Served k g c (call_at xs i) y) (in_force_unique before.lived.0 force) answer));
             read = below_more _ i
                 (λ j lt. subst (ReadFaithfully k g (history xs j) (call_at xs j)) (old j (λ e. omega arith)) (before.lawful.read j lt))
                 (subst (ReadFaithfully k g (history xs i) (call_at xs i)) new (law _ before.lived));

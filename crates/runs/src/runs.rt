@@ -9,7 +9,7 @@ use algebra::{Fault, Field, Group};
 use reader::{ReadRecord, Reader};
 
 // A call, with what it is handed; of an output its length, which may be wrong.
-#[derive(Clone, Copy)]
+#[derive(Clone, Copy, PartialEq, Eq, Debug)]
 pub enum Call<'a> {
     Load {
         e: &'a [u8],
@@ -36,7 +36,7 @@ pub enum Call<'a> {
     },
 }
 
-#[derive(Clone, Copy)]
+#[derive(Clone, Copy, PartialEq, Eq, Debug)]
 pub enum Answer {
     Loaded {
         dots: usize,
@@ -56,7 +56,8 @@ pub enum Answer {
 
 // What a call answers, and its outputs: the mark, the mended mark or the syndrome, and the message.
 // Each is followed by zeros, and is all zeros where the call is refused or has no such output.
-#[derive(Clone, Copy)]
+// They are arrays, so that a reply takes no heap and is copied like a number.
+#[derive(Clone, Copy, PartialEq, Eq, Debug)]
 pub struct Reply {
     pub answer: Result<Answer, Fault>,
     pub mark: [u8; 64],
@@ -76,8 +77,9 @@ pub fn run<F: Field + Drop, G: Group + Drop>(
 {
     let mut reader = Reader::new(field, group);
     let count = calls.len().min(replies.len());
-    for i in 0..count {
-        replies[i] = serve(&mut reader, &calls[i]);
+    // Not `zip` with `iter_mut`: past them a proof knows how many replies there are and none of them.
+    for (i, call) in calls[..count].iter().enumerate() {
+        replies[i] = serve(&mut reader, call);
     }
     count
 }

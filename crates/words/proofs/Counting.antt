@@ -5,7 +5,7 @@ use Rattle.std.proofs.Common.{◌≡◌, ℕ, zero, suc, ◌+◌, ◌*◌, ◌<�
 use Rattle.std.proofs.lemmas.Bool.{cases_eq, cases_lt, eq-eqb, ne_eqb, lt-ltb, le-ltb, cond-true, cond-false, cond_both}
 use Rattle.algebra.specs.Fields.{Symbols, SumProductLaws}
 use Rattle.words.specs.Words.{at, tabulate, total, less, weight, Lawful}
-use Rattle.words.proofs.Fields.{zero_below, zero_sum, opposite_sum_cancels}
+use Rattle.algebra.proofs.SumProducts.{zero_below, zero_sum, opposite_sum_cancels}
 use Rattle.words.proofs.Tabulate.{length_tabulate, at_tabulate}
 use Rattle.words.proofs.Totals.{Adds, total_cong, total_zero, total_sum}
 use Rattle.words.proofs.Linear.{at_less, tabulate_lawful, less_lawful}

@@ -2,10 +2,11 @@ pub mod Chief
 pub mod CodeWords
 pub mod Counting
 pub mod Differences
-pub mod Fields
 pub mod Groups
 pub mod Hanging
+pub mod LeastTurns
 pub mod Linear
+pub mod Made
 pub mod Spanning
 pub mod Spans
 pub mod Stored

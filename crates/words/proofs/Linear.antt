@@ -4,7 +4,7 @@ use Rattle.std.proofs.lemmas.Bool.{cases_lt, ne_eqb, cond_both, cond-false}
 use Rattle.algebra.specs.Fields.{Symbols, SumProductLaws}
 use Rattle.algebra.specs.Groups.{Dots, GroupLaws}
 use Rattle.words.specs.Words.{at, tabulate, total, Lawful, nought, one, plus, less, scaled, times, turned, Keeps, syndrome}
-use Rattle.words.proofs.Fields.{zero_below, one_below, zero_sum, sum_opposite_cancels, opposite_sum_cancels, product_zero, zero_product, one_product, sum_product, product_exchange, opposite_product}
+use Rattle.algebra.proofs.SumProducts.{zero_below, one_below, zero_sum, sum_opposite_cancels, opposite_sum_cancels, product_zero, zero_product, one_product, sum_product, product_exchange, opposite_product}
 use Rattle.words.proofs.Groups.{identity_below, product_forth, inverse_identity}
 use Rattle.words.proofs.Tabulate.{length_tabulate, at_tabulate, at_past, tabulate_is, tabulate_ext}
 use Rattle.words.proofs.Totals.{total_cong, total_zero, total_sum, total_one_term, field_adds, total_below, product_total}

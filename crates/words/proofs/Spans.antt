@@ -4,7 +4,7 @@ use Rattle.std.proofs.Common.{◌≡◌, ℕ, zero, suc, ◌<◌, List, sym, ap,
 use Rattle.algebra.specs.Fields.{Symbols, SumProductLaws}
 use Rattle.algebra.specs.Groups.{Dots}
 use Rattle.words.specs.Words.{at, tabulate, total, Lawful, nought, plus, less, scaled, turned, Keeps}
-use Rattle.words.proofs.Fields.{sum_product}
+use Rattle.algebra.proofs.SumProducts.{sum_product}
 use Rattle.words.proofs.Tabulate.{at_tabulate, tabulate_is, tabulate_ext}
 use Rattle.words.proofs.Totals.{total_cong, total_sum, sum_exchange, field_adds, product_total}
 use Rattle.words.proofs.Linear.{at_plus, at_scaled, plus_lawful, less_lawful, plus_commutative, plus_associative, less_plus, plus_less}

@@ -1,10 +1,20 @@
 -- Totals over the numbers below n, of any sum that is associative and commutative on its codes, with 0 neutral.
 --     Adds k Code           the sum of k has these laws on the numbers that are codes
-use Rattle.std.proofs.Common.{◌≡◌, ℕ, zero, suc, ◌<◌, cond, eqb, ◌≢◌, sym, refl, ap, ◌∙◌, ap₂, inl, inr, arith}
+use Rattle.std.proofs.Common.{◌≡◌, ℕ, zero, suc, ◌<◌, cond, eqb, ◌≢◌, sym, refl, ap, ◌∙◌, ap₂, inl, inr, arith, add-one, List, [], ◌∷◌, ◌++◌}
+use Rattle.std.proofs.iter.Yields.{nat_range_steps}
+use Rattle.std.proofs.lemmas.Fn.{fold_over}
+use Rattle.std.proofs.lemmas.Grind.{fold-append}
+use Rattle.std.proofs.lemmas.Iterator.{YieldsList-from_range}
+use Rattle.std.specs.Fn.{Called}
+use Rattle.std.specs.Iterator.{FoldsItems}
+use denote.Param.Members.{Mut}
+use Rattle.std.proofs.lemmas.List.{map-id}
+use Rattle.std.proofs.lemmas.List.FromFn.{map-range_with_len_more}
+use Rattle.std.specs.List.{fold, range_with_len}
 use Rattle.std.proofs.lemmas.Bool.{cases_eq, eq-eqb, ne_eqb, cond-true, cond-false, cond_both}
 use Rattle.algebra.specs.Fields.{Symbols, SumProductLaws}
 use Rattle.words.specs.Words.{total}
-use Rattle.words.proofs.Fields.{zero_below, product_zero}
+use Rattle.algebra.proofs.SumProducts.{zero_below, product_zero}
 
 pub record Adds (k : Symbols) (Code : ℕ → Type 0) : Type 0 where
   pub zero_code : Code 0
@@ -17,6 +27,27 @@ pub total_cong : (k : Symbols) (f g : ℕ → ℕ) (n : ℕ) → ((d : ℕ) → 
 unfolding total
 total_cong k f g zero same = refl
 total_cong k f g (suc n) same = ap₂ k.sum (total_cong k f g n (λ d h. same d (omega arith))) (same n (omega arith))
+
+range_more : (n : ℕ) → range_with_len 0 (suc n) ≡ range_with_len 0 n ++ n ∷ []
+range_more n = sym (map-id _) ∙ rw add-one at (map-range_with_len_more (λ x. x) 0 n n (omega arith)) ∙ ap (λ (l : List ℕ). l ++ n ∷ []) (map-id _)
+
+-- a total, added up from the first number on
+pub total_fold : (k : Symbols) (f : ℕ → ℕ) (n : ℕ) → total k f n ≡ fold (λ s d. k.sum s (f d)) 0 (range_with_len 0 n)
+unfolding total
+total_fold k f zero = refl
+total_fold k f (suc n) =
+    let step : ℕ → ℕ → ℕ = λ s d. k.sum s (f d) in
+    ap (λ s. k.sum s (f n)) (total_fold k f n) ∙ sym (ap (fold step 0) (range_more n) ∙ fold-append step 0 (range_with_len 0 n) (n ∷ []))
+
+-- a fold over the numbers below n whose closure adds f
+pub total_folded : {F : Type 0} (g : Mut F (ℕ × (ℕ × Unit {0})) ℕ) (k : Symbols) (f : ℕ → ℕ) (n r : ℕ) (p : F) → ((a d b : ℕ) (q : F) → Called g p (a, (d, tt)) b q → (b ≡ k.sum a (f d)) × (q ≡ p)) → FoldsItems nat_range_steps g (record { start = 0; end = n }) p 0 r → r ≡ total k f n
+total_folded g k f n r p adds ran =
+    let step : ℕ → ℕ → ℕ = λ s d. k.sum s (f d) in
+    fold_over nat_range_steps (λ d. d) g (λ ds a. a ≡ fold step 0 ds) p (λ ds a d b q before call.
+    let (next, kept) = adds a d b q call in
+    (next ∙ ap (λ s. step s d) before ∙ sym (fold-append step 0 ds (d ∷ [])), kept))
+    _ (range_with_len 0 n) 0 r (YieldsList-from_range 0 n n refl (omega arith)).runs refl ran
+    ∙ sym (total_fold k f n)
 
 module _ {k : Symbols} {Code : ℕ → Type 0} (adds : Adds k Code) where
   pub sum_exchange : (a b c d : ℕ) → Code a → Code b → Code c → Code d → k.sum (k.sum a b) (k.sum c d) ≡ k.sum (k.sum a c) (k.sum b d)

@@ -4,7 +4,7 @@ use Rattle.std.proofs.lemmas.Bool.{cases_eq}
 use Rattle.algebra.specs.Fields.{Symbols, SumProductLaws, FieldLaws}
 use Rattle.algebra.specs.Groups.{Dots, GroupLaws}
 use Rattle.words.specs.Words.{at, total, nought, plus, less, scaled, turned, weight, Lawful}
-use Rattle.words.proofs.Fields.{zero_below, product_zero, one_product}
+use Rattle.algebra.proofs.SumProducts.{zero_below, product_zero, one_product}
 use Rattle.words.proofs.Groups.{product_back, product_forth}
 use Rattle.words.proofs.Counting.{mark, mark_other, mark_zero, numbers, numbers_add, weight_is_total}
 use Rattle.words.proofs.Tabulate.{length_tabulate, tabulate_is}

@@ -1,5 +1,6 @@
 pub mod Buffers
 pub mod Laws
+pub mod Records
 pub mod Stored
 pub mod Turns
 pub mod Words

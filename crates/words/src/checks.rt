@@ -19,6 +19,7 @@ pub fn check_length(length: usize, n: usize, buffer: usize) -> Result<(), Fault>
 pub fn check_symbols(order: u8, symbols: &[u8]) -> Result<(), Fault>
     ensures { Judged (range_check order symbols.now ∷ []) result (λ _. Unit {0}) }
 {
+    // A rule of the project: a range check loops with the index.
     for i in 0..symbols.len() {
         if symbols[i] >= order {
             return Err(Fault::symbol(i));

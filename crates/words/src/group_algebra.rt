@@ -1,5 +1,5 @@
 // The algebra of a group over a field: its elements are words, one symbol for each dot.
-ghost use Rattle.std.specs.Prelude.{◌≡◌, ◌<◌, length, MatchBool, MatchOption, ◌≢◌};
+ghost use Rattle.std.specs.Prelude.{◌≡◌, ℕ, ◌<◌, ◌≤◌, length, MatchBool, MatchOption, ◌≢◌};
 ghost use Rattle.algebra.specs.Checks.{FirstWithout, Judged};
 ghost use Rattle.words.specs.Laws.{AlgebraLaws};
 ghost use Rattle.words.specs.Stored.{Stores, coefficient, word};
@@ -9,6 +9,7 @@ ghost use Rattle.words.specs.Words.{at, less, one, plus, scaled, syndrome, times
 use crate::word::Word;
 use crate::{count, likeness};
 use algebra::{Fault, Field, Group};
+use std::array;
 
 #[derive(Drop)]
 pub struct GroupAlgebra<F, G> {
@@ -16,6 +17,8 @@ pub struct GroupAlgebra<F, G> {
     group: G,
 }
 
+// In the contracts k is what the field means, g what the group means and n the number of dots. Definitions for these three would have to
+// take the members `symbols` and `dots` of the two traits as arguments, and be no shorter.
 impl<F: Field, G: Group> GroupAlgebra<F, G> {
     pub fn new(field: F, group: G) -> GroupAlgebra<F, G>
         ensures made { result ≡ record { field = field; group = group } }
@@ -52,6 +55,18 @@ impl<F: Field, G: Group> GroupAlgebra<F, G> {
         likeness::alike(&self.group, first, second)
     }
 
+    // The word with the symbol at each dot that the closure gives.
+    fn tabulated<S: Fn(usize) -> u8>(&self, symbol: S) -> Word
+        requires { S.IsAlwaysCallable symbol }
+        ensures below { (d : ℕ) → d < (G.Group.dots self.now.group).order → S.post symbol d (at result.symbols d) }
+        ensures rest { (d : ℕ) → (G.Group.dots self.now.group).order ≤ d → at result.symbols d ≡ 0 }
+    {
+        let n = self.group.order();
+        Word {
+            symbols: array::from_fn(|d| if d < n { symbol(d) } else { 0 }),
+        }
+    }
+
     // The word with 1 at dot 0 and 0 elsewhere.
     pub fn one(&self) -> Word
         ensures { let n = (G.Group.dots self.now.group).order in Stores n result (one n) }
@@ -65,60 +80,42 @@ impl<F: Field, G: Group> GroupAlgebra<F, G> {
     pub fn plus(&self, u: &Word, v: &Word) -> Word
         ensures { let k = F.Field.symbols self.now.field in let n = (G.Group.dots self.now.group).order in Stores n result (plus k n (word n u.now) (word n v.now)) }
     {
-        let mut out = [0; 64];
-        for d in 0..self.group.order() {
-            out[d] = self.field.sum(u.symbol(d), v.symbol(d));
-        }
-        Word { symbols: out }
+        self.tabulated(|d| self.field.sum(u.symbol(d), v.symbol(d)))
     }
 
     // The difference, symbol by symbol.
     pub fn less(&self, u: &Word, v: &Word) -> Word
         ensures { let k = F.Field.symbols self.now.field in let n = (G.Group.dots self.now.group).order in Stores n result (less k n (word n u.now) (word n v.now)) }
     {
-        let mut out = [0; 64];
-        for d in 0..self.group.order() {
-            out[d] = self
-                .field
-                .sum(u.symbol(d), self.field.opposite(v.symbol(d)));
-        }
-        Word { symbols: out }
+        self.tabulated(|d| {
+            self.field
+                .sum(u.symbol(d), self.field.opposite(v.symbol(d)))
+        })
     }
 
     // Each symbol of w times a.
     pub fn scaled(&self, a: u8, w: &Word) -> Word
         ensures { let k = F.Field.symbols self.now.field in let n = (G.Group.dots self.now.group).order in Stores n result (scaled k n a (word n w.now)) }
     {
-        let mut out = [0; 64];
-        for d in 0..self.group.order() {
-            out[d] = self.field.product(a, w.symbol(d));
-        }
-        Word { symbols: out }
+        self.tabulated(|d| self.field.product(a, w.symbol(d)))
     }
 
     // The symbol at x of the product of u and v.
     fn coefficient(&self, u: &Word, v: &Word, x: usize) -> u8
         ensures { let k = F.Field.symbols self.now.field in let g = G.Group.dots self.now.group in let n = g.order in result ≡ coefficient k g (word n u.now) (word n v.now) x }
     {
-        let mut sum = 0;
-        for h in 0..self.group.order() {
+        (0..self.group.order()).fold(0, |sum, h| {
             let y = self.group.product(self.group.inverse(h), x);
-            sum = self
-                .field
-                .sum(sum, self.field.product(u.symbol(h), v.symbol(y)));
-        }
-        sum
+            self.field
+                .sum(sum, self.field.product(u.symbol(h), v.symbol(y)))
+        })
     }
 
     // The product: at x the sum, over all dots h, of u at h times v at (inverse of h) times x.
     pub fn product(&self, u: &Word, v: &Word) -> Word
         ensures { let k = F.Field.symbols self.now.field in let g = G.Group.dots self.now.group in let n = g.order in Stores n result (times k g (word n u.now) (word n v.now)) }
     {
-        let mut out = [0; 64];
-        for d in 0..self.group.order() {
-            out[d] = self.coefficient(u, v, d);
-        }
-        Word { symbols: out }
+        self.tabulated(|d| self.coefficient(u, v, d))
     }
 
     // w turned by j: what hung on dot h hangs on j times h.
@@ -126,11 +123,7 @@ impl<F: Field, G: Group> GroupAlgebra<F, G> {
         ensures { let g = G.Group.dots self.now.group in let n = g.order in Stores n result (turned g j (word n w.now)) }
     {
         let back = self.group.inverse(j);
-        let mut out = [0; 64];
-        for d in 0..self.group.order() {
-            out[d] = w.symbol(self.group.product(back, d));
-        }
-        Word { symbols: out }
+        self.tabulated(|d| w.symbol(self.group.product(back, d)))
     }
 
     // w turned by the inverse of j.
@@ -158,12 +151,7 @@ impl<F: Field, G: Group> GroupAlgebra<F, G> {
     pub fn first_difference(&self, u: &Word, v: &Word) -> Option<usize>
         ensures { let n = (G.Group.dots self.now.group).order in MatchOption result (word n u.now ≡ word n v.now) (λ i. (i < n) × FirstWithout (λ d. at (word n u.now) d ≡ at (word n v.now) d) i) }
     {
-        for d in 0..self.group.order() {
-            if u.symbol(d) != v.symbol(d) {
-                return Some(d);
-            }
-        }
-        None
+        (0..self.group.order()).find(|&d| u.symbol(d) != v.symbol(d))
     }
 
     // Whether the two words are the same.

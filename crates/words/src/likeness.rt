@@ -13,23 +13,13 @@ pub fn alike<G: Group>(group: &G, first: &[u8], second: &[u8]) -> Result<Option<
     let n = group.order();
     check_length(first.len(), n, 0)?;
     check_length(second.len(), n, 1)?;
-    for g in 0..n {
-        if turns_into(group, g, first, second) {
-            return Ok(Some(g));
-        }
-    }
-    Ok(None)
+    Ok((0..n).find(|&g| turns_into(group, g, first, second)))
 }
 
 fn turns_into<G: Group>(group: &G, g: usize, first: &[u8], second: &[u8]) -> bool
-    requires { (length first.now ≡ (G.Group.dots group.now).order) × (length second.now ≡ (G.Group.dots group.now).order) }
+    requires first { length first.now ≡ (G.Group.dots group.now).order }
+    requires second { length second.now ≡ (G.Group.dots group.now).order }
     ensures { MatchBool result (Turned (G.Group.dots group.now) g first.now second.now) (Turned (G.Group.dots group.now) g first.now second.now → ⊥) }
 {
-    for h in 0..group.order() {
-        let to = group.product(g, h);
-        if second[to] != first[h] {
-            return false;
-        }
-    }
-    true
+    (0..group.order()).all(|h| second[group.product(g, h)] == first[h])
 }

@@ -22,9 +22,8 @@ pub fn turn<G: Group, T: Copy>(
     if g >= n {
         return Err(Fault::dot());
     }
-    for h in 0..n {
-        let to = group.product(g, h);
-        target[to] = source[h];
+    for (h, x) in source.iter().enumerate() {
+        target[group.product(g, h)] = *x;
     }
     Ok(())
 }

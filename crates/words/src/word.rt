@@ -2,7 +2,7 @@
 ghost use Rattle.std.specs.Prelude.{◌≡◌, length};
 ghost use Rattle.words.specs.Words.{at, nought, tabulate};
 
-#[derive(Clone, Copy)]
+#[derive(Clone, Copy, PartialEq, Eq, Debug)]
 pub struct Word {
     pub(crate) symbols: [u8; 64],
 }
@@ -15,14 +15,13 @@ impl Word {
         Word { symbols: [0; 64] }
     }
 
-    // The first 64 of the symbols, and 0 past their end.
+    // The first 64 of the symbols, and 0 past their end. It may leave symbols out, so it is no `From`.
     pub fn of(symbols: &[u8]) -> Word
         ensures { result.symbols ≡ tabulate 64 (at symbols.now) }
     {
+        let n = symbols.len().min(64);
         let mut out = [0; 64];
-        for d in 0..symbols.len().min(64) {
-            out[d] = symbols[d];
-        }
+        out[..n].copy_from_slice(&symbols[..n]);
         Word { symbols: out }
     }
 
@@ -30,15 +29,15 @@ impl Word {
     pub fn symbol(&self, d: usize) -> u8
         ensures { result ≡ at self.now.symbols d }
     {
-        if d < 64 { self.symbols[d] } else { 0 }
+        self.symbols.get(d).copied().unwrap_or(0)
     }
 
     // Writes the first symbols over the whole of the target.
     pub fn copy_to(&self, target: &mut [u8])
         ensures { target.new ≡ tabulate (length target.old) (at self.now.symbols) }
     {
-        for d in 0..target.len() {
-            target[d] = self.symbol(d);
-        }
+        let n = target.len().min(64);
+        target.fill(0);
+        target[..n].copy_from_slice(&self.symbols[..n]);
     }
 }

@@ -2,15 +2,12 @@
 ghost use Rattle.std.specs.Prelude.{◌≡◌, ◌≤◌};
 ghost use Rattle.codes.specs.GroupCodes.{rows};
 
-// The number of words of weight at most t with symbol 1 at dot 0, over n dots and q symbols; 0 where n is not from 1 to 64 or q not from 2 to 16.
+// The number of words of weight at most t with symbol 1 at dot 0, over n dots and q symbols, of which at most 64 and 16 count.
 pub fn row_count(n: usize, q: u8, t: u8) -> usize
-    ensures { 1 ≤ n → n ≤ 64 → 2 ≤ q → q ≤ 16 → t ≤ 3 → result ≡ rows n q t }
+    ensures { n ≤ 64 → q ≤ 16 → t ≤ 3 → result ≡ rows n q t }
 {
-    if n < 1 || n > 64 || q < 2 || q > 16 {
-        return 0;
-    }
-    let dots = n - 1;
-    let symbols = q as usize - 1;
+    let dots = n.clamp(1, 64) - 1;
+    let symbols = usize::from(q.clamp(1, 16)) - 1;
     match t {
         0 => 0,
         1 => 1,

@@ -1,9 +1,9 @@
 // Filling a book, row by row.
 ghost use Rattle.std.specs.Prelude.{◌≡◌, ◌<◌};
 ghost use Rattle.books.specs.Adding.{Pushed};
-ghost use Rattle.books.specs.Books.{Chained, bucket as bucket_of};
+ghost use Rattle.books.specs.Rows.{bucket as bucket_of};
 
-use crate::book::{Book, Row};
+use crate::book::{Book, Placed, Row};
 use words::Word;
 
 // The bucket of a syndrome.
@@ -11,31 +11,25 @@ pub fn bucket(syndrome: &Word) -> usize
     ensures is { result ≡ bucket_of syndrome.now }
     ensures below { result < 1024 }
 {
-    let mut h = 0;
-    for d in 0..64 {
-        h = (h * 31 + syndrome.symbol(d) as usize) % 1024;
-    }
-    h
+    (0..64).fold(0, |h, d| (h * 31 + usize::from(syndrome.symbol(d))) % 1024)
 }
 
 impl Book {
     // The book with no rows.
     pub fn empty() -> Book
-        ensures none { result.count ≡ 0 }
-        ensures chained { Chained result }
+        ensures { result.count ≡ 0 }
     {
+        let none = Placed { dot: 0, symbol: 0 };
         let row = Row {
-            first_dot: 0,
-            first_symbol: 0,
-            second_dot: 0,
-            second_symbol: 0,
+            first: none,
+            second: none,
             syndrome: Word::zero(),
-            earlier: 4096,
+            earlier: None,
         };
         Book {
             rows: [row; 4096],
             count: 0,
-            heads: [4096; 1024],
+            heads: [None; 1024],
         }
     }
 
@@ -46,10 +40,8 @@ impl Book {
         if self.count >= 4096 {
             return;
         }
-        let b = bucket(&row.syndrome);
-        row.earlier = self.heads[b];
+        row.earlier = self.heads[bucket(&row.syndrome)].replace(self.count as u16);
         self.rows[self.count] = row;
-        self.heads[b] = self.count as u16;
         self.count += 1;
     }
 }

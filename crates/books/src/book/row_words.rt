@@ -1,10 +1,12 @@
 // The words of rows.
 ghost use Rattle.std.specs.Prelude.{◌≡◌, ◌<◌, ◌≤◌};
 ghost use Rattle.words.specs.Stored.{Stores};
-ghost use Rattle.books.specs.Books.{row_at, row_symbol, row_word};
+ghost use Rattle.books.specs.Books.{row_at};
+ghost use Rattle.books.specs.Rows.{row_symbol, row_word};
 
 use crate::book::{Book, Row};
 use algebra::{Field, Group};
+use std::array;
 use words::{GroupAlgebra, Word};
 
 impl Row {
@@ -14,10 +16,10 @@ impl Row {
     {
         if d == 0 {
             1
-        } else if d == self.first_dot as usize {
-            self.first_symbol
-        } else if d == self.second_dot as usize {
-            self.second_symbol
+        } else if d == usize::from(self.first.dot) {
+            self.first.symbol
+        } else if d == usize::from(self.second.dot) {
+            self.second.symbol
         } else {
             0
         }
@@ -27,11 +29,8 @@ impl Row {
     pub fn word(&self, n: usize) -> Word
         ensures { n ≤ 64 → Stores n result (row_word n self.now) }
     {
-        let mut out = [0; 64];
-        for d in 0..n.min(64) {
-            out[d] = self.symbol(d);
-        }
-        Word::of(&out)
+        let symbols: [u8; 64] = array::from_fn(|d| if d < n { self.symbol(d) } else { 0 });
+        Word::of(&symbols)
     }
 }
 
@@ -40,10 +39,9 @@ impl Book {
     pub fn row_word<F: Field, G: Group>(&self, algebra: &GroupAlgebra<F, G>, i: usize) -> Word
         ensures { let n = (G.Group.dots algebra.now.group).order in i < 4096 → Stores n result (row_word n (row_at self.now i)) }
     {
-        if i < 4096 {
-            self.rows[i].word(algebra.dots())
-        } else {
-            Word::zero()
+        match self.rows.get(i) {
+            Some(row) => row.word(algebra.dots()),
+            None => Word::zero(),
         }
     }
 }

@@ -4,8 +4,8 @@ ghost use Rattle.reader.specs.Calls.{Loads};
 ghost use Rattle.reader.specs.Histories.{Call, load as load_of, clear as clear_of};
 ghost use Rattle.reader.specs.Stored.{Lived};
 
+use crate::code::Code;
 use crate::reader::Reader;
-use crate::reader::judge::judged;
 use algebra::{Fault, Field, Group};
 use words::GroupAlgebra;
 
@@ -21,13 +21,14 @@ impl<F: Field, G: Group> Reader<F, G> {
     }
 
     // Puts the code of e and t in force, and answers the number of message dots and of rows.
+    // The rules have these two as a plain pair.
     pub fn load(&mut self, e: &[u8], t: u8) -> Result<(usize, usize), Fault>
         ensures answer { Loads (F.Field.symbols self.old.algebra.field) (G.Group.dots self.old.algebra.group) e.now t result }
         ensures kept { OnErr result (self.new ≡ self.old) }
         ensures same { self.new.algebra ≡ self.old.algebra }
         ensures lived { (past : List Call) → Lived (F.Field.symbols self.old.algebra.field) (G.Group.dots self.old.algebra.group) past self.old.code → Lived (F.Field.symbols self.old.algebra.field) (G.Group.dots self.old.algebra.group) (load_of e.now t ∷ past) self.new.code }
     {
-        let code = judged(&self.algebra, e, t)?;
+        let code = Code::of(&self.algebra, e, t)?;
         let answer = (code.basis.count, code.book.count);
         self.code = Some(code);
         Ok(answer)

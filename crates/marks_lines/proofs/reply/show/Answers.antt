@@ -1,8 +1,14 @@
-use Rattle.std.proofs.Common.{arith}
-use Rattle.std.proofs.lemmas.List.{length_push}
-use Rattle.marks_lines.proofs.Appending.{appends_more, text_all}
+use Rattle.std.proofs.Common.{[], ◌∷◌, rules}
+use Rattle.marks_lines.specs.Held.{Appends}
+use Rattle.marks_lines.proofs.Appending.{whole_line}
 use Rattle.marks_lines.proofs.reply.show.Goals as goal
+use Rattle.marks_lines.proofs.reply.show.Goals.{in-Ok, in-Err}
 
 pub returns : goal.returns
 returns c =
-    text_all c.new-line.result c.push.new.self _ c.new-line.ensures (simp length_push (omega (arith, c.write.ensures.short))) (appends_more c.write.ensures.appended c.push.ensures)
+    let line = c.match-reply.line in
+    let ended : Appends line (10 ∷ []) c.push.new.self = search rules in
+    elim c.match-reply.branch [
+      | in-Ok w ↦ rw w.in-Ok.is (whole_line c.new-line.result line 10 c.new-line.ensures w.write.ensures.short (rw w.line-is w.write.ensures.appended) ended)
+      | in-Err w ↦ rw w.in-Err.is (whole_line c.new-line.result line 10 c.new-line.ensures w.write-in-Err.ensures.short (rw w.line-is w.write-in-Err.ensures.appended) ended)
+    ]

@@ -1,11 +1,11 @@
-use Rattle.std.proofs.Common.{ℕ, List, sym, subst, arith}
-use Rattle.marks_lines.specs.Lines.{Means, asked}
-use Rattle.marks_lines.proofs.Grammar.{clear_line, opened}
+use Rattle.std.proofs.Common.{arith}
+use Rattle.marks_lines.proofs.Grammar.{no_radius, no_symbols}
 use Rattle.marks_lines.proofs.request.parse.Goals as goal
 
-pub returns-then-line-eq67 : goal.returns-then-line-eq67
-returns-then-line-eq67 c = (tt, clear_line c.args.line.now (omega arith) (omega arith))
+pub returns-in_err-digit-in-76 : goal.returns-in_err-digit-in-76
+returns-in_err-digit-in-76 c =
+    rw c.from_residual.ensures (no_radius c.args.line.now (omega arith) c.in_err-digit-in-76.ensures)
 
-pub returns : goal.returns
-returns c =
-    subst (λ (l : List ℕ). Means l (asked c.command.result)) (sym (opened c.args.line.now (omega arith) (omega arith))) c.command.ensures
+pub returns-in_err-read-in-76 : goal.returns-in_err-read-in-76
+returns-in_err-read-in-76 c =
+    rw c.from_residual-in_err-read-in-76.ensures (no_symbols c.args.line.now (omega arith) c.in_err-read-in-76.ensures)

@@ -1,11 +1,15 @@
-use Rattle.std.proofs.Common.{◌∙◌, arith, below_more}
+use Rattle.std.proofs.Common.{◌∙◌, rules, tests}
+use Rattle.std.proofs.lemmas.Iterator.{first_from_Range}
+use Rattle.words.specs.Turns.{Turned}
+use Rattle.words.proofs.LeastTurns.{least_turn}
 use Rattle.words.proofs.likeness.alike.Goals as goal
 
-pub loop-g-preserved : goal.loop-g-preserved
-loop-g-preserved g c = below_more _ _ c.loop-g.invariant c.if-turns_into.ensures
-
 pub returns : goal.returns
-returns g c = (
-  (c.in_ok-check_length.ensures.0.0 ∙ c.order-n.ensures, (c.in_ok-check_length-2.ensures.0.0 ∙ c.order-n.ensures, tt)),
-  λ j lt. c.loop-g.invariant j (omega arith),
-)
+returns g c =
+    let p = g.G.Group.dots c.args.group.now in
+    let u = c.args.first.now in
+    let v = c.args.second.now in (
+      (c.in_ok-check_length.ensures.0.0 ∙ c.order-n.ensures, (c.in_ok-check_length-2.ensures.0.0 ∙ c.order-n.ensures, tt)),
+      least_turn p u v c.order-n.result c.find.result c.order-n.ensures (
+          first_from_Range _ _ _ _ (λ j. Turned p j u v) (λ j. Turned p j u v → ⊥) c.find.ensures.ran (λ x q k. search (rules, tests)) (λ x q k. search (rules, tests))),
+    )

@@ -1,21 +1,12 @@
-use Rattle.std.proofs.Common.{◌<◌, sym, refl, ◌∙◌, subst, arith}
-use Rattle.std.proofs.ByRecursion.{All-get_or}
+use Rattle.std.proofs.Common.{inl, inr, ◌∙◌, sym, rules}
 use Rattle.std.proofs.lemmas.List.{map-id}
-use Rattle.marks_lines.specs.Symbols.{Symbols}
-use Rattle.marks_lines.proofs.Spelling.{all_turns, filled_all, filled_more, filled_none, filled_symbols}
+use Rattle.marks_lines.specs.Held.{held}
+use Rattle.marks_lines.proofs.Spelling.{by_cases, coded, lawful, no_code, too_long}
 use Rattle.marks_lines.proofs.digits.Digits.new.Goals as goal
-
-pub loop-i-init : goal.loop-i-init
-loop-i-init c = filled_none _ _
-
-pub returns-then-symbols-i-gt9 : goal.returns-then-symbols-i-gt9
-returns-then-symbols-i-gt9 c = λ s. omega (arith, All-get_or (λ x. x < 10) c.args.symbols.now c.loop-i.i 0 (omega arith) s.1)
-
-pub loop-i-preserved : goal.loop-i-preserved
-loop-i-preserved c = filled_more (λ x. x) c.args.symbols.now c.loop-i.i _ c.loop-i.held (omega arith) (omega arith) refl c.loop-i.invariant
 
 pub returns : goal.returns
 returns c =
-    let w = all_turns c.loop-i.auto.i-end c.loop-i-test.false c.loop-i.invariant in
-    let e = filled_all (λ x. x) c.args.symbols.now c.loop-i.held (omega arith) w ∙ map-id _ in
-    (subst Symbols (sym e) (filled_symbols _ _ _ (omega arith) w), e)
+    let bytes = c.args.symbols.now in
+    by_cases c.collect.result c.collect.ensures
+    (λ stray small. elim stray [ inl long ↦ too_long bytes (λ x. x) long bytes small (sym (map-id bytes)) | inr p ↦ no_code bytes (λ x. x) p.0 p.1 (λ v h. let e = p.2 in search rules) bytes small (sym (map-id bytes)) ])
+    (λ d stand. let e = coded bytes (λ x. x) (held d) stand.0 (λ i h. let e = stand.1 i h in search rules) ∙ map-id (held d) in (rw e (lawful d), e))

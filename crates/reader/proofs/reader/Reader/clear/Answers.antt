@@ -1,6 +1,5 @@
-use Rattle.std.proofs.Common.{refl}
 use Rattle.reader.specs.Histories.{cleared}
 use Rattle.reader.proofs.reader.Reader.clear.Goals as goal
 
-pub returns : goal.returns
-returns g c = record { after = refl; lived = λ past. (cleared, tt) }
+pub returns-clause-lived : goal.returns-clause-lived
+returns-clause-lived g c past = (cleared, tt)

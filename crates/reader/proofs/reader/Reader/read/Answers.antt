@@ -1,51 +1,31 @@
-use Rattle.std.proofs.Common.{length, Err, sym, refl, ap, subst}
-use Rattle.reader.specs.Calls.{Reads}
-use Rattle.reader.specs.Histories.Call.{read}
-use Rattle.reader.specs.Stored.{Sound, code_of}
-use Rattle.reader.proofs.InForce.{lived_on}
+use Rattle.std.proofs.Common.{refl}
 use Rattle.reader.proofs.ReadLaws.{reads_bound, reads_lawful}
+use Rattle.reader.specs.Stored.{code_of}
+use Rattle.std.proofs.lemmas.Result.{err_from_is_err_and}
 use Rattle.reader.proofs.reader.Reader.read.Goals as goal
 
-pub returns-in-Some : goal.returns-in-Some
-returns-in-Some g c =
-    let k = g.F.Field.symbols c.args.self.now.algebra.field in
-    let p = g.G.Group.dots c.args.self.now.algebra.group in
+pub returns-in_err-code-clause-law : goal.returns-in_err-code-clause-law
+returns-in_err-code-clause-law g c past lived =
+    let p = err_from_is_err_and c.from_residual.result c.from_residual.ensures.1 in
+    let none = c.in_err-code.ensures.none in
     let field = g.met.F.Field.lawful c.args.self.now.algebra.field in
     let group = g.met.G.Group.lawful c.args.self.now.algebra.group in
-    let o = c.args.self.now.code in
-    let r = c.args.received.now in
-    let b = c.args.mended.now in
-    let m = c.args.message.now in
-    let a = c.read_with.result in
-    let b' = c.read_with.new.mended in
-    let m' = c.read_with.new.message in
-    let answer : Sound k p o → Reads k p (code_of p.order o) r b m a b' m'
-    = subst (λ o. Sound k p o → Reads k p (code_of p.order o) r b m a b' m') (sym c.in-Some.is) c.read_with.ensures.answer in
-    record {
-      answer = answer;
-      kept = c.read_with.ensures.kept;
-      bound = λ sound. reads_bound field group (code_of p.order o) r b m a b' m' (answer sound);
-      law = λ past lived. reads_lawful field group past (code_of p.order o) r b m a b' m' lived.0 (answer lived.1);
-      lived = lived_on k p o (read r (length b) (length m)) tt;
-    }
+    reads_lawful field group past (code_of (g.G.Group.dots c.args.self.now.algebra.group).order c.args.self.now.code) _ c.args.mended.now c.args.message.now _ _ _ lived.0
+    (rw (none.0, p.1, p.2, none.1) (refl, refl, refl))
 
-pub returns-in-None : goal.returns-in-None
-returns-in-None g c =
-    let k = g.F.Field.symbols c.args.self.now.algebra.field in
-    let p = g.G.Group.dots c.args.self.now.algebra.group in
+pub returns-clause-answer : goal.returns-clause-answer
+returns-clause-answer g c = rw (c.in_ok-code.ensures.held, ← c.self.view_is) c.read.ensures.answer
+
+pub returns-clause-bound : goal.returns-clause-bound
+returns-clause-bound g c =
     let field = g.met.F.Field.lawful c.args.self.now.algebra.field in
     let group = g.met.G.Group.lawful c.args.self.now.algebra.group in
-    let o = c.args.self.now.code in
-    let r = c.args.received.now in
-    let b = c.args.mended.now in
-    let m = c.args.message.now in
-    let a = Err c.refused.result in
-    let answer : Sound k p o → Reads k p (code_of p.order o) r b m a b m
-    = subst (λ o. Sound k p o → Reads k p (code_of p.order o) r b m a b m) (sym c.in-None.is) (λ _. (ap Err c.refused.ensures, refl, refl)) in
-    record {
-      answer = answer;
-      kept = (refl, refl);
-      bound = λ _. tt;
-      law = λ past lived. reads_lawful field group past (code_of p.order o) r b m a b m lived.0 (answer lived.1);
-      lived = lived_on k p o (read r (length b) (length m)) tt;
-    }
+    reads_bound field group (code_of (g.G.Group.dots c.args.self.now.algebra.group).order c.args.self.now.code) c.args.received.now c.args.mended.now c.args.message.now _ c.read.new.mended c.read.new.message
+    (rw (c.in_ok-code.ensures.held, ← c.self.view_is) c.read.ensures.answer)
+
+pub returns-clause-law : goal.returns-clause-law
+returns-clause-law g c past lived =
+    let field = g.met.F.Field.lawful c.args.self.now.algebra.field in
+    let group = g.met.G.Group.lawful c.args.self.now.algebra.group in
+    reads_lawful field group past (code_of (g.G.Group.dots c.args.self.now.algebra.group).order c.args.self.now.code) _ c.args.mended.now c.args.message.now _ _ _ lived.0
+    (rw (c.in_ok-code.ensures.held, ← c.self.view_is) c.read.ensures.answer)

@@ -1,12 +1,8 @@
-use Rattle.std.proofs.Common.{refl, arith}
+use Rattle.std.proofs.Common.{rules}
 use Rattle.words.specs.Words.{times}
-use Rattle.words.proofs.Stored.{filled_none, filled_stores}
+use Rattle.words.proofs.Stored.{given_stores}
 use Rattle.words.proofs.group_algebra.GroupAlgebra.product.Goals as goal
-
-pub loop-d-init : goal.loop-d-init
-loop-d-init g c = filled_none _
 
 pub returns : goal.returns
 unfolding times
-returns g c =
-    filled_stores _ _ _ _ _ (omega arith) (λ d l. refl) c.loop-d.invariant
+returns g c = given_stores _ _ _ (λ d l. let given = c.tabulated.ensures.below d l in search rules) c.tabulated.ensures.rest

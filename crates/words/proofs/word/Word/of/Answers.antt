@@ -1,10 +1,6 @@
-use Rattle.std.proofs.Common.{arith}
-use Rattle.words.proofs.Stored.{filled_all, filled_none}
-use Rattle.words.proofs.Tabulate.{at_past}
+use Rattle.std.proofs.Common.{refl, replicate}
+use Rattle.words.proofs.Tabulate.{front_tabulated}
 use Rattle.words.proofs.word.Word.of.Goals as goal
 
-pub loop-d-init : goal.loop-d-init
-loop-d-init c = filled_none _
-
 pub returns : goal.returns
-returns c = filled_all _ _ _ (λ d l le. at_past c.args.symbols.now d (omega arith)) c.loop-d.invariant
+returns c = front_tabulated 64 c.min-n.result c.args.symbols.now c.copy_from_slice.new.self (replicate 64 0) c.min-n.ensures c.copy_from_slice.ensures.after refl

@@ -1,6 +1,0 @@
-use Rattle.std.proofs.Common.{◌≡◌, ℕ, ◌<◌, length, get_or}
-use Rattle.tables.specs.Tables.{Cancels}
-use Rattle.tables.proofs.table.adopt.find_inverses.Given as goal
-
-abbrev pub invariant-loop-a : goal.invariant-loop-a
-invariant-loop-a l = (length l.inverses ≡ 64) × ((k : ℕ) → k < l.a → (get_or l.inverses k 0 < l.n) × Cancels l.n l.table k (get_or l.inverses k 0))
