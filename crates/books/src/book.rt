@@ -29,7 +29,7 @@ pub struct Row {
     pub earlier: Option<u16>,
 }
 
-// The rows below count, and the last row of each bucket.
+// The rows below count, and the last row of each bucket: fixed tables, by a rule of the project, with no heap.
 // Not each book is that of a code: it may be half filled, or cut short at 4096 rows. So that it is one is a premise of what its methods promise, and no part of the type.
 #[derive(Clone, Copy)]
 pub struct Book {

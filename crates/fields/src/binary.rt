@@ -13,6 +13,7 @@ pub struct BinaryField {
 }
 
 impl BinaryField {
+    // One `new` for both kinds of field would take the orders and a maker, and be longer.
     pub fn new(order: u8) -> Result<BinaryField, Fault>
         ensures { Judged (order_checks binary_orders order) result (λ x. ⟦<BinaryField as Field>⟧.symbols x ≡ binary_symbols order) }
     {

@@ -13,6 +13,7 @@ pub struct PrimeField {
 }
 
 impl PrimeField {
+    // One `new` for both kinds of field would take the orders and a maker, and be longer.
     pub fn new(order: u8) -> Result<PrimeField, Fault>
         ensures { Judged (order_checks prime_orders order) result (λ x. ⟦<PrimeField as Field>⟧.symbols x ≡ prime_symbols order) }
     {

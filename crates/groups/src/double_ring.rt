@@ -13,6 +13,7 @@ pub struct DoubleRing {
 }
 
 impl DoubleRing {
+    // One `new` for rings and double rings would take the bound and a maker, and be longer.
     pub fn new(m: usize) -> Result<DoubleRing, Fault>
         ensures { Judged (order_checks 32 m) result (λ x. ⟦<DoubleRing as Group>⟧.dots x ≡ double_ring_dots m) }
     {

@@ -13,6 +13,7 @@ pub struct Ring {
 }
 
 impl Ring {
+    // One `new` for rings and double rings would take the bound and a maker, and be longer.
     pub fn new(n: usize) -> Result<Ring, Fault>
         ensures { Judged (order_checks 64 n) result (λ x. ⟦<Ring as Group>⟧.dots x ≡ ring_dots n) }
     {

@@ -1,19 +1,15 @@
 -- When a word e with a radius t is a code that can be loaded, over a field k and a group g.
---     unit n d              the word with 1 at dot d and 0 elsewhere
 --     Commutes k g e d      the word with 1 at dot d commutes with e
 --     load_checks k g e t   the checks of a load, in their order
 --     Passes k g e t        none of them refuses
-use Rattle.std.specs.Prelude.{◌≡◌, ℕ, ◌≤◌, cond, List, [], ◌∷◌, length, ◌==◌}
+use Rattle.std.specs.Prelude.{◌≡◌, ℕ, ◌≤◌, List, [], ◌∷◌, length}
 use Rattle.algebra.specs.Checks.{Check, Passed, asked, each}
 use Rattle.algebra.specs.Fields.{Symbols}
 use Rattle.algebra.specs.Groups.{Dots}
 use Rattle.algebra.specs.Refusals.{book_refused, central_refused, close_refused, idempotent_refused, radius_refused}
 use Rattle.words.specs.Buffers.{length_check, range_check}
-use Rattle.words.specs.Words.{at, tabulate, times}
+use Rattle.words.specs.Words.{at, times, unit}
 use Rattle.codes.specs.GroupCodes.{TooClose, rows}
-
-unfoldable pub unit : ℕ → ℕ → List ℕ
-unit n d = tabulate n (λ x. cond (x == d) 1 0)
 
 module _ (k : Symbols) (g : Dots) where
   abbrev pub Commutes : List ℕ → ℕ → Type 0

@@ -9,10 +9,10 @@ use Rattle.algebra.specs.Fields.{Symbols, SumProductLaws}
 use Rattle.algebra.specs.Groups.{Dots}
 use Rattle.algebra.specs.Refusals.{central_refused, close_refused, idempotent_refused}
 use Rattle.algebra.specs.declared.fault.Fault.{Fault}
-use Rattle.words.specs.Words.{at, times, Lawful, nought, turned, weight}
+use Rattle.words.specs.Words.{at, times, Lawful, nought, turned, unit, weight}
 use Rattle.codes.specs.Eliminations.{Reduced, pivots, residual}
 use Rattle.codes.specs.GroupCodes.{MessageDots, TooClose, rows}
-use Rattle.reader.specs.Loads.{Commutes, Passes, central_check, idempotent_check, load_checks, unit}
+use Rattle.reader.specs.Loads.{Commutes, Passes, central_check, idempotent_check, load_checks}
 use Rattle.codes.proofs.MessageWords.{pivots_are_message_dots}
 use Rattle.fields.specs.SmallFields.{AllTrue, all, all_true, every, every_at}
 use Rattle.specimens.proofs.WordTests.{same, same_true, same_false, eqb_not, implied, every_light, light_at, lawful_test, lawful_from, keeps_test, keeps_from}

@@ -1,8 +1,7 @@
 -- The certificates of the specimens, and that all hold.
 use Rattle.std.proofs.Common.{[], ◌∷◌, refl}
-use Rattle.words.specs.Words.{less, nought, one, syndrome, tabulate, times, total, turned, weight}
+use Rattle.words.specs.Words.{less, nought, one, syndrome, tabulate, times, total, turned, unit, weight}
 use Rattle.codes.specs.Eliminations.{combination, pivots, residual}
-use Rattle.reader.specs.Loads.{unit}
 use Rattle.fields.specs.FieldKinds.{binary_symbols, prime_symbols, times_bits, times_power}
 use Rattle.fields.specs.SmallFields.{binary_laws, prime_laws}
 use Rattle.specimens.specs.Specimens.{AllHold, digits, specimens}

@@ -1,5 +1,5 @@
 -- What the checks of a table give.
-use Rattle.std.specs.Prelude.{◌≡◌, ℕ, ◌+◌, ◌*◌, ◌<◌, ◌≤◌, ◌⊎◌, List, slice_index, refl}
+use Rattle.std.specs.Prelude.{◌≡◌, ℕ, zero, suc, ◌+◌, ◌*◌, ◌<◌, ◌≤◌, ◌⊎◌, List, replicate, slice_index, slice_index_or, refl}
 use Rattle.std.proofs.Common.{sym, ap, subst, ◌∙◌, ⊎_elim, arith}
 use Rattle.algebra.specs.Checks.{FirstWithout}
 use Rattle.algebra.specs.Codes.{at_codes}
@@ -7,6 +7,22 @@ use Rattle.tables.specs.Tables.{Associates, AssociatesAt, Associative, Cancels, 
 use Rattle.algebra.proofs.Coded.{at_codes_cong}
 use Rattle.algebra.proofs.GroupLaws.{LawsInside}
 use Rattle.tables.specs.Places.{place_below, triple_below, triple_order}
+
+pub index_zeros : (n i : ℕ) → slice_index_or {A = ℕ} (replicate n 0) i 0 ≡ 0
+index_zeros zero i = refl
+index_zeros (suc n) zero = refl
+index_zeros (suc n) (suc i) = index_zeros n i
+
+-- a table of zeros is that of the group of one dot
+module _ (t : List ℕ) (zeros : (i : ℕ) → slice_index t i ≡ 0) where
+  pub one_kept : (a : ℕ) → a < 1 → Kept 1 t a
+  one_kept a h = let e : a ≡ 0 = omega arith in (zeros (0 * 1 + a) ∙ sym e, zeros (a * 1 + 0) ∙ sym e)
+
+  pub one_cancels : (a b : ℕ) → Cancels 1 t a b
+  one_cancels a b = (zeros (a * 1 + b), zeros (b * 1 + a))
+
+  pub one_associative : Associative 1 t
+  one_associative a b c ha hb hc = zeros (entry 1 t a b * 1 + c) ∙ sym (zeros (a * 1 + entry 1 t b c))
 
 module _ (n : ℕ) (t : List ℕ) where
   -- a triple that fails, while all before it in the order of the three loops associate

@@ -22,7 +22,7 @@ impl<'a> Products<'a> {
         if !(1..=64).contains(&n) || table.len() != n * n {
             return Err(Part::Dots.refuses(Refusal::TableSize, 0));
         }
-        match table.iter().position(|entry| *entry as usize >= n) {
+        match table.iter().position(|entry| usize::from(*entry) >= n) {
             Some(place) => Err(Part::Dots.refuses(Refusal::Entry, place)),
             None => Ok(Products {
                 order: n,
@@ -46,9 +46,8 @@ impl<'a> Products<'a> {
         ensures { let n = self.now.order in let t = self.now.rows.now in Judged (inverse_check n t ∷ []) result (λ v. (a : ℕ) → a < n → (slice_index v a < n) × Cancels n t a (slice_index v a)) }
     {
         let mut inverses = [0; 64];
-        // By the index: after `iter_mut` a proof knows the length and no element.
-        for a in 0..self.order {
-            inverses[a] = self.inverse(a)?;
+        for (a, inverse) in inverses[..self.order].iter_mut().enumerate() {
+            *inverse = self.inverse(a)?;
         }
         Ok(inverses)
     }
@@ -67,11 +66,12 @@ impl<'a> Products<'a> {
     }
 
     fn product(&self, a: usize, b: usize) -> usize
-        requires { (a < self.now.order) × (b < self.now.order) }
+        requires row { a < self.now.order }
+        requires column { b < self.now.order }
         ensures value { result ≡ entry self.now.order self.now.rows.now a b }
         ensures below { result < self.now.order }
     {
-        self.rows[a * self.order + b] as usize
+        usize::from(self.rows[a * self.order + b])
     }
 
     fn keeps(&self, a: usize) -> bool
@@ -82,7 +82,8 @@ impl<'a> Products<'a> {
     }
 
     fn cancels(&self, a: usize, b: usize) -> bool
-        requires { (a < self.now.order) × (b < self.now.order) }
+        requires first { a < self.now.order }
+        requires second { b < self.now.order }
         ensures { IsTrue result ↔ Cancels self.now.order self.now.rows.now a b }
     {
         self.product(a, b) == 0 && self.product(b, a) == 0
@@ -118,7 +119,9 @@ impl<'a> Products<'a> {
     }
 
     fn associates(&self, a: usize, b: usize, c: usize) -> bool
-        requires { (a < self.now.order) × (b < self.now.order) × (c < self.now.order) }
+        requires first { a < self.now.order }
+        requires second { b < self.now.order }
+        requires third { c < self.now.order }
         ensures { IsTrue result ↔ Associates self.now.order self.now.rows.now a b c }
     {
         let ab = self.product(a, b);

@@ -80,13 +80,13 @@ impl Group for TableGroup {
         if a >= self.order || b >= self.order {
             return 0;
         }
-        self.products[a * self.order + b] as usize
+        usize::from(self.products[a * self.order + b])
     }
 
     fn inverse(&self, a: usize) -> usize {
         if a >= self.order {
             return 0;
         }
-        self.inverses[a] as usize
+        usize::from(self.inverses[a])
     }
 }

@@ -1,12 +1,12 @@
 -- Words as the program holds them.
-use Rattle.std.proofs.Common.{◌≡◌, ℕ, zero, suc, ◌<◌, ◌≤◌, cond, eqb, List, ◌∷◌, length, take, replicate, sym, refl, ap, ◌∙◌, ap₂, ⊎_elim, arith, Option, Some, None, MatchOption, ◌≢◌}
+use Rattle.std.proofs.Common.{◌≡◌, ℕ, ◌<◌, ◌≤◌, List, length, take, sym, ap, ◌∙◌, ap₂, ⊎_elim, arith, Option, Some, None, MatchOption, ◌≢◌}
 use Rattle.std.proofs.lemmas.List.{get_or-take, length-take-le}
-use Rattle.std.proofs.lemmas.Bool.{cases_lt, cond-false, ne_eqb}
+use Rattle.std.proofs.lemmas.Bool.{cases_lt}
 use Rattle.algebra.specs.Checks.{FirstWithout}
 use Rattle.words.specs.Stored.{Stores, word}
-use Rattle.words.specs.Words.{at, nought, one, tabulate}
+use Rattle.words.specs.Words.{at, nought, tabulate}
 use Rattle.words.specs.declared.word.Word.{Word}
-use Rattle.words.proofs.Tabulate.{at_tabulate, at_zeros, at_tabulate_past, tabulate_ext, tabulate_is}
+use Rattle.words.proofs.Tabulate.{at_tabulate, at_tabulate_past, tabulate_ext, tabulate_is}
 
 pub zero_stores : (n : ℕ) (z : Word) → z.symbols ≡ nought 64 → Stores n z (nought n)
 unfolding nought
@@ -40,21 +40,6 @@ given_stores n r f below rest = record { value = tabulate_ext n (at r.symbols) f
 -- two words, symbol by symbol
 pub paired_stores : (F : ℕ → ℕ → ℕ) (n : ℕ) (u v r : Word) → ((d : ℕ) → d < n → at r.symbols d ≡ F (at u.symbols d) (at v.symbols d)) → ((d : ℕ) → n ≤ d → at r.symbols d ≡ 0) → Stores n r (tabulate n (λ d. F (at (word n u) d) (at (word n v) d)))
 paired_stores F n u v r below rest = given_stores n r _ (λ d l. below d l ∙ ap₂ F (at_word n u d l) (at_word n v d l)) rest
-
-at_one : (d : ℕ) → 1 ≤ d → at (1 ∷ replicate 63 0) d ≡ 0
-at_one zero h = absurd (omega arith)
-at_one (suc d) h = at_zeros 63 d
-
-pub one_stores : (n : ℕ) → 1 ≤ n → Stores n (record { symbols = 1 ∷ replicate 63 0 }) (one n)
-unfolding one
-one_stores n h = record {
-  value = tabulate_ext n _ _ (λ d l. same d);
-  rest = λ d l. at_one d (omega arith);
-}
-  where
-    same : (d : ℕ) → at (1 ∷ replicate 63 0) d ≡ cond (eqb d 0) 1 0
-    same zero = refl
-    same (suc d) = at_zeros 63 d ∙ sym (cond-false (eqb (suc d) 0) 1 0 (ne_eqb (suc d) 0 (λ e. omega arith)))
 
 pub take_word : (n : ℕ) (w : Word) → n ≤ length w.symbols → take n w.symbols ≡ word n w
 take_word n w h = tabulate_is n (at w.symbols) (take n w.symbols) (length-take-le n w.symbols h) (λ d l. get_or-take n w.symbols d 0 l)

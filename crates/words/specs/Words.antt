@@ -4,6 +4,7 @@
 --     total k f n           the field's sum of f over the numbers below n
 --     Lawful k n w          w has n symbols, each below the field's order
 --     nought n, one n       the word of zeros; the word with 1 at dot 0 and 0 elsewhere
+--     unit n d              the word with 1 at dot d and 0 elsewhere
 --     plus, less k n u v    the sum and the difference, symbol by symbol
 --     scaled k n a w        each symbol of w times a
 --     times k g u v         the product: at x the sum, over all dots h, of u at h times v at (inverse of h) times x
@@ -34,6 +35,9 @@ nought n = tabulate n (λ d. 0)
 
 unfoldable pub one : ℕ → List ℕ
 one n = tabulate n (λ d. cond (d == 0) 1 0)
+
+unfoldable pub unit : ℕ → ℕ → List ℕ
+unit n d = tabulate n (λ x. cond (x == d) 1 0)
 
 unfoldable pub plus : Symbols → ℕ → List ℕ → List ℕ → List ℕ
 plus k n u v = tabulate n (λ d. k.sum (at u d) (at v d))

@@ -4,7 +4,7 @@ ghost use Rattle.algebra.specs.Checks.{FirstWithout, Judged};
 ghost use Rattle.words.specs.Laws.{AlgebraLaws};
 ghost use Rattle.words.specs.Stored.{Stores, coefficient, word};
 ghost use Rattle.words.specs.Turns.{LeastTurn, alike_checks};
-ghost use Rattle.words.specs.Words.{at, less, one, plus, scaled, syndrome, times, turned, weight as nonzeros};
+ghost use Rattle.words.specs.Words.{at, less, one, plus, scaled, syndrome, times, turned, unit, weight as nonzeros};
 
 use crate::word::Word;
 use crate::{count, likeness};
@@ -67,13 +67,18 @@ impl<F: Field, G: Group> GroupAlgebra<F, G> {
         }
     }
 
+    // The word with 1 at dot d and 0 elsewhere.
+    pub fn unit(&self, d: usize) -> Word
+        ensures { let n = (G.Group.dots self.now.group).order in Stores n result (unit n d) }
+    {
+        self.tabulated(|x| u8::from(x == d))
+    }
+
     // The word with 1 at dot 0 and 0 elsewhere.
     pub fn one(&self) -> Word
         ensures { let n = (G.Group.dots self.now.group).order in Stores n result (one n) }
     {
-        let mut out = [0; 64];
-        out[0] = 1;
-        Word { symbols: out }
+        self.unit(0)
     }
 
     // The sum, symbol by symbol.

@@ -3,9 +3,9 @@ ghost use Rattle.std.specs.Prelude.{◌≡◌, ℕ, ◌<◌, ◌≤◌, [], ◌�
 ghost use Rattle.algebra.specs.Checks.{Judged, asked};
 ghost use Rattle.algebra.specs.Refusals.{book_refused, radius_refused};
 ghost use Rattle.words.specs.Buffers.{length_check, range_check};
-ghost use Rattle.words.specs.Stored.{Stores, word};
+ghost use Rattle.words.specs.Stored.{word};
 ghost use Rattle.codes.specs.GroupCodes.{rows};
-ghost use Rattle.reader.specs.Loads.{Commutes, central_check, idempotent_check, load_checks, unit as unit_word};
+ghost use Rattle.reader.specs.Loads.{Commutes, central_check, idempotent_check, load_checks};
 ghost use Rattle.reader.specs.Stored.{SoundCode};
 
 use crate::checks::check_buffers;
@@ -13,7 +13,6 @@ use crate::code::Code;
 use algebra::{Fault, Field, Group, Part, Refusal};
 use books::{Book, row_count};
 use codes::Basis;
-use std::array;
 use words::{GroupAlgebra, Word};
 
 impl Code {
@@ -92,16 +91,8 @@ fn check_central<F: Field, G: Group>(algebra: &GroupAlgebra<F, G>, e: &Word) -> 
 
 // Whether the word with 1 at dot d commutes with e.
 fn commutes<F: Field, G: Group>(algebra: &GroupAlgebra<F, G>, e: &Word, d: usize) -> bool
-    ensures { let k = F.Field.symbols algebra.now.field in let g = G.Group.dots algebra.now.group in let c = Commutes k g (word g.order e.now) d in d < g.order → MatchBool result c (c → ⊥) }
+    ensures { let k = F.Field.symbols algebra.now.field in let g = G.Group.dots algebra.now.group in let c = Commutes k g (word g.order e.now) d in MatchBool result c (c → ⊥) }
 {
-    let unit = unit(d);
+    let unit = algebra.unit(d);
     algebra.same(&algebra.product(&unit, e), &algebra.product(e, &unit))
-}
-
-// The word with 1 at dot d and 0 elsewhere.
-fn unit(d: usize) -> Word
-    ensures { (n : ℕ) → n ≤ 64 → d < n → Stores n result (unit_word n d) }
-{
-    let symbols: [u8; 64] = array::from_fn(|x| (x == d) as u8);
-    Word::of(&symbols)
 }

@@ -10,7 +10,7 @@ use algebra::{Fault, Field, Group, Part, Refusal};
 use words::{GroupAlgebra, Word};
 
 impl Code {
-    pub fn write<F: Field, G: Group>(
+    pub(crate) fn write<F: Field, G: Group>(
         &self,
         algebra: &GroupAlgebra<F, G>,
         message: &[u8],
@@ -29,7 +29,7 @@ impl Code {
         Ok(())
     }
 
-    pub fn read<F: Field, G: Group>(
+    pub(crate) fn read<F: Field, G: Group>(
         &self,
         algebra: &GroupAlgebra<F, G>,
         received: &[u8],
@@ -61,7 +61,7 @@ impl Code {
         })
     }
 
-    pub fn syndrome<F: Field, G: Group>(
+    pub(crate) fn syndrome<F: Field, G: Group>(
         &self,
         algebra: &GroupAlgebra<F, G>,
         mark: &[u8],

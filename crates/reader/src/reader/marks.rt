@@ -12,6 +12,7 @@ use crate::record::ReadRecord;
 use algebra::{Fault, Field, Group, Part, Refusal};
 use words::check_symbols;
 
+// The clauses `lived` speak of every past, which no field of a reader could hold.
 #[tactic(auto, using(crate::proofs::InForce::lived_on))]
 impl<F: Field, G: Group> Reader<F, G> {
     // The code in force.
@@ -66,7 +67,7 @@ impl<F: Field, G: Group> Reader<F, G> {
         ensures lived { let k = F.Field.symbols self.now.algebra.field in let g = G.Group.dots self.now.algebra.group in (past : List Call) → Lived k g past self.now.code → Lived k g (facts_of ∷ past) self.now.code }
     {
         let code = self.code()?;
-        Ok((code.basis.count, code.radius as usize, code.book.count))
+        Ok((code.basis.count, usize::from(code.radius), code.book.count))
     }
 
     // The least dot by which the first mark turns into the second, if there is one.

@@ -1,15 +1,16 @@
-use Rattle.std.proofs.Common.{◌<◌, get_or, inl, arith}
+use Rattle.std.proofs.Common.{ℕ, ◌<◌, get_or, inl, rules, arith}
+use Rattle.std.proofs.lemmas.List.{get_or_append_left}
 use Rattle.std.proofs.lemmas.Result.{err_from_is_err_and}
 use Rattle.tables.proofs.products.Products.inverses.Goals as goal
 
-pub returns-in_err-inverses : goal.returns-in_err-inverses
-returns-in_err-inverses c =
+pub returns-in_err-inverse : goal.returns-in_err-inverse
+returns-in_err-inverse c =
     let p = err_from_is_err_and c.from_residual.result c.from_residual.ensures.1 in
-    let fault = c.in_err-inverses.ensures in
+    let fault = c.in_err-inverse.ensures in
     rw (p.1, p.2)
-    (inl (c.loop-a.a, c.loop-a-test.true, (fault.1, λ k h. (get_or c.loop-a.inverses k 0, (c.loop-a.invariant.1 k h).0, (c.loop-a.invariant.1 k h).1)), fault.0))
+    (let below : c.loop-a.a < c.args.self.now.order = search rules in inl (c.loop-a.a, below, (fault.1, λ k h. (get_or c.loop-a.inverse-items k 0, (c.loop-a.invariant.1 k h).0, (c.loop-a.invariant.1 k h).1)), fault.0))
 
 pub returns : goal.returns
 returns c =
-    let held = λ (k : _) (h : k < c.args.self.now.order). c.loop-a.invariant.1 k (omega arith) in
-    (((λ k h. (get_or c.loop-a.inverses k 0, (held k h).0, (held k h).1)), tt), held)
+    let held = λ (k : ℕ) (h : k < c.args.self.now.order). c.loop-a.invariant.1 k (search rules) in
+    ((((λ k h. (get_or c.loop-a.inverse-items k 0, (held k h).0, (held k h).1)), tt)), (λ k h. rw (get_or_append_left c.loop-a.inverse-items _ 0 k (omega (arith, c.loop-a.invariant.0))) (held k h)))

@@ -1,5 +1,6 @@
-use Rattle.words.proofs.Stored.{one_stores}
+use Rattle.words.specs.Words.{one, unit}
 use Rattle.words.proofs.group_algebra.GroupAlgebra.one.Goals as goal
 
 pub returns : goal.returns
-returns g c = one_stores _ (g.met.G.Group.lawful c.args.self.now.group).least
+unfolding one unit
+returns g c = c.unit.ensures
