@@ -77,6 +77,7 @@ impl fmt::Display for Part {
 pub struct Fault {
     pub refusal: Refusal,
     pub part: Part,
+    // 0 where no place is named.
     pub place: usize,
 }
 

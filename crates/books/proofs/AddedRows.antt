@@ -1,5 +1,5 @@
 -- The loops that add rows to a book: one turn more of each, and the whole book.
-use Rattle.std.proofs.Common.{◌≡◌, ℕ, suc, ◌+◌, ◌-◌, ◌*◌, ◌<◌, ◌≤◌, List, sym, ap, ◌∙◌, subst, inl, inr, suc-mul, add-mul, mul_left_comm, arith}
+use Rattle.std.proofs.Common.{◌≡◌, ℕ, suc, ◌+◌, ◌-◌, ◌*◌, ◌<◌, ◌≤◌, List, sym, ap, ◌∙◌, subst, ◌⊎◌, inl, inr, suc-mul, add-mul, mul_left_comm, arith}
 use Rattle.std.proofs.lemmas.Bool.{cases_lt}
 use Rattle.algebra.specs.Fields.{Symbols, SumProductLaws}
 use Rattle.algebra.specs.Groups.{Dots}
@@ -91,14 +91,15 @@ module _ {k : Symbols} (laws : SumProductLaws k) (g : Dots) (least : 1 ≤ g.ord
   lists_three y z = adds_then k g e (rows g.order k.order 2) (choose (g.order - 1) 2 * ((k.order - 1) * (k.order - 1))) (rows g.order k.order 3) (Listed g.order k.order 2) (FirstDots g.order g.order k.order) (Listed g.order k.order 3) b y z
       (rows_three g.order k.order ∙ omega (arith, rows_two g.order k.order)) (λ r. inl) (λ r. inr) (λ r p. p)
 
-  pub book_none : (x : Book) → t ≡ 0 → x ≡ b → BookOf k g e t x
-  book_none x is same = book_of 0 x is (adds_to same (adds_none k g e (Listed g.order k.order 0) b (λ r p. p)))
+  -- from x to y, the m rows of P are added if t is at least s, and else none
+  abbrev Step : (s m : ℕ) → (Row → Type 0) → Book → Book → Type 0
+  Step s m P x y = ((s ≤ t) × Adds k g e m P x y) ⊎ ((t < s) × (y ≡ x))
 
-  pub book_one : (x : Book) → t ≡ 1 → Adds k g e 1 (Exactly unplaced unplaced) b x → BookOf k g e t x
-  book_one x is one = book_of 1 x is (lists_one x one)
-
-  pub book_two : (x y : Book) → t ≡ 2 → Adds k g e 1 (Exactly unplaced unplaced) b x → Adds k g e ((g.order - 1) * (k.order - 1)) (LastDots unplaced g.order k.order) x y → BookOf k g e t y
-  book_two x y is one two = book_of 2 y is (lists_two x y (lists_one x one) two)
-
-  pub book_three : (x y z : Book) → t ≡ 3 → Adds k g e 1 (Exactly unplaced unplaced) b x → Adds k g e ((g.order - 1) * (k.order - 1)) (LastDots unplaced g.order k.order) x y → Adds k g e (choose (g.order - 1) 2 * ((k.order - 1) * (k.order - 1))) (FirstDots g.order g.order k.order) y z → BookOf k g e t z
-  book_three x y z is one two three = book_of 3 z is (lists_three y z (lists_two x y (lists_one x one) two) three)
+  pub book_made : (x y z : Book) → Step 1 1 (Exactly unplaced unplaced) b x → Step 2 ((g.order - 1) * (k.order - 1)) (LastDots unplaced g.order k.order) x y
+      → Step 3 (choose (g.order - 1) 2 * ((k.order - 1) * (k.order - 1))) (FirstDots g.order g.order k.order) y z → BookOf k g e t z
+  book_made x y z (inl one) (inl two) (inl three) = book_of 3 z (omega (arith, three.0)) (lists_three y z (lists_two x y (lists_one x one.1) two.1) three.1)
+  book_made x y z (inl one) (inl two) (inr three) = book_of 2 z (omega (arith, two.0, three.0)) (adds_to three.1 (lists_two x y (lists_one x one.1) two.1))
+  book_made x y z (inl one) (inr two) (inr three) = book_of 1 z (omega (arith, one.0, two.0)) (adds_to (three.1 ∙ two.1) (lists_one x one.1))
+  book_made x y z (inr one) (inr two) (inr three) = book_of 0 z (omega (arith, one.0)) (adds_to (three.1 ∙ two.1 ∙ one.1) (adds_none k g e (Listed g.order k.order 0) b (λ r p. p)))
+  book_made x y z (inr one) (inl two) three = absurd (omega (arith, one.0, two.0))
+  book_made x y z one (inr two) (inl three) = absurd (omega (arith, two.0, three.0))

@@ -1,7 +1,8 @@
--- What `any` and `find_map` over a range of numbers say of the numbers in it.
-use Rattle.std.proofs.Common.{◌≡◌, ℕ, ◌+◌, ◌-◌, ◌<◌, ◌≤◌, Bool, true, false, IsTrue, List, length, Some, None, Option, MatchBool, MatchOption, sym, ap, ◌∙◌, subst, refl, arith}
+-- What `any` and `find_map` over a range of numbers say of the numbers in it, and what an Option's `map` says of its item.
+use Rattle.std.proofs.Common.{◌≡◌, ℕ, ◌+◌, ◌-◌, ◌<◌, ◌≤◌, Bool, true, false, IsTrue, List, length, Some, None, Option, MatchBool, MatchOption, sym, ap, ◌∙◌, subst, refl, unwrap_or, arith}
 use Rattle.std.proofs.lemmas.Iterator.{YieldsList-from_range, cases_from_any}
 use Rattle.std.proofs.lemmas.Iterator.Adapters.{option_map_id}
+use Rattle.std.proofs.lemmas.Option.{none-some}
 use Rattle.std.proofs.lemmas.List.FromFn.{length-range_with_len, get_or-range_with_len}
 use Rattle.std.proofs.iter.Yields.{nat_range_steps}
 use Rattle.std.proofs.iter.runs.Sources.{range_runs}
@@ -51,3 +52,18 @@ module _ {F B : Type 0} {g : Mut F (ℕ × Unit {0}) (Option B)} (s : Range ℕ)
             let here = placed p from (k - s.start) k (omega arith) (omega arith) in
             gives_none k (subst (λ o. IsSomeAnd o (λ x. Called g f (x, tt) None f)) here (found.1 (k - s.start) (omega arith))),
       )
+
+-- q is what `map` makes of o: `from` takes its item back to that of o, and P holds of its item
+module _ {A B : Type 0} (from : B → A) (P : B → Type 0) where
+  abbrev pub Mapped : Option A → Option B → Type 0
+  Mapped o q = MatchOption o (q ≡ None) (λ a. (b : B) × (q ≡ Some b) × (from b ≡ a) × P b)
+
+  pub mapped_some : (S : Option A → Type 0) (o : Option A) (b : B) → S o → Mapped o (Some b) → S (Some (from b)) × P b
+  mapped_some S None b told none = absurd (none-some b (sym none))
+  mapped_some S (Some a) b told (c, is, at, p) =
+      let same : b ≡ c = ap (λ o. unwrap_or o b) is in
+      (subst (λ x. S (Some x)) (sym (ap from same ∙ at)) told, subst P (sym same) p)
+
+  pub mapped_none : (S : Option A → Type 0) (o : Option A) → S o → Mapped o None → S None
+  mapped_none S None told none = told
+  mapped_none S (Some a) told made = absurd (none-some made.0 made.1)

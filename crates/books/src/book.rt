@@ -19,6 +19,11 @@ pub struct Placed {
     pub symbol: u8,
 }
 
+impl Placed {
+    // A symbol of 0 is no symbol: the word of a row is 0 there.
+    pub(crate) const NOTHING: Placed = Placed { dot: 0, symbol: 0 };
+}
+
 // The word with 1 at dot 0 and two more symbols, of which each may be 0.
 #[derive(Clone, Copy, PartialEq, Eq, Debug)]
 pub struct Row {
@@ -30,7 +35,8 @@ pub struct Row {
 }
 
 // The rows below count, and the last row of each bucket: fixed tables, by a rule of the project, with no heap.
-// Not each book is that of a code: it may be half filled, or cut short at 4096 rows. So that it is one is a premise of what its methods promise, and no part of the type.
+// Not each book is that of a code: it may be half filled, or cut short at 4096 rows. So that it is one is a premise
+// of what its methods promise, and no part of the type.
 #[derive(Clone, Copy)]
 pub struct Book {
     pub rows: [Row; 4096],

@@ -10,6 +10,7 @@ use crate::book::{Book, Row};
 use algebra::{Field, Group};
 use words::{GroupAlgebra, Word};
 
+// The algebra comes with each call, since a reader holds it beside its code.
 impl Book {
     // Whether some code word that is not zero has weight 2t or less.
     pub fn too_close<F: Field, G: Group>(&self, algebra: &GroupAlgebra<F, G>) -> bool

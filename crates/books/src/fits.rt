@@ -6,6 +6,7 @@ use crate::book::Book;
 use algebra::{Field, Group};
 use words::{GroupAlgebra, Word};
 
+// The row is told by its number, by which rows are told apart and compared.
 #[derive(Clone, Copy, PartialEq, Eq, Debug)]
 pub struct Fit {
     pub row: usize,
@@ -35,8 +36,8 @@ impl Book {
         ensures { let k = F.Field.symbols algebra.now.field in let g = G.Group.dots algebra.now.group in SaysFits k g self.now (word g.order target.now) result }
     {
         (1..algebra.symbols()).find_map(|scale| {
-            let row = self.fit_at(algebra, scale, target)?;
-            Some(Fit { row, scale })
+            self.fit_at(algebra, scale, target)
+                .map(|row| Fit { row, scale })
         })
     }
 }

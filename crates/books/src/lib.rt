@@ -1,4 +1,5 @@
-// The book of a code, and what is found by it: whether the code words lie far enough apart, and the pattern of a syndrome.
+// The book of a code, and what is found by it: whether the code words lie far enough apart, and the pattern
+// of a syndrome.
 #![tactic(auto)]
 
 mod book;

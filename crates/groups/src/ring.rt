@@ -24,6 +24,7 @@ impl Ring {
     }
 }
 
+// Sums and opposites as a prime field has them, but of dots: the two share no type.
 impl Group for Ring {
     ghost dots = { λ x. ring_dots x.order };
 

@@ -24,7 +24,11 @@ fn grids(rt: HostRuntime) -> Result<(), Fail> {
 
 #[test]
 fn refusals(rt: HostRuntime) {
-    let refused = Some(Fault::order(Part::Dots));
+    let refused = Some(Fault {
+        refusal: Refusal::Order,
+        part: Part::Dots,
+        place: 0,
+    });
     assert_eq!(rt; u8::from(Refusal::Order), 1);
     assert_eq!(rt; Ring::new(0).err(), refused);
     assert_eq!(rt; Ring::new(65).err(), refused);

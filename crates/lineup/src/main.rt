@@ -74,7 +74,7 @@ impl TryFrom<&[u16]> for Dot {
 }
 
 // What one camera saw: a symbol and a record for each dot, in the order in which the camera met them. They are two
-// lists, since marks are compared and turned by their symbols alone.
+// lists, since a turn takes things of one kind: first the symbols, then the records.
 #[derive(Drop)]
 struct Picture {
     symbols: Vec<u8>,

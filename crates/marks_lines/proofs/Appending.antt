@@ -1,7 +1,7 @@
 -- Writing to a buffer one part after another.
-use Rattle.std.proofs.Common.{◌≡◌, ℕ, zero, suc, ◌+◌, ◌-◌, ◌/◌, ◌%◌, ◌^◌, ◌<◌, ◌≤◌, List, [], ◌∷◌, ◌++◌, length, take, drop, replicate, set, decimal, sym, refl, ap, ◌∙◌, subst, mod-eq_of_lt, arith, length-take, length-take-le}
+use Rattle.std.proofs.Common.{◌≡◌, ℕ, zero, suc, ◌+◌, ◌/◌, ◌%◌, ◌^◌, ◌<◌, ◌≤◌, List, [], ◌∷◌, ◌++◌, length, take, decimal, sym, refl, ap, ◌∙◌, subst, mod-eq_of_lt, arith, length-take}
 use Rattle.std.proofs.lemmas.Fmt.{decimal_digit, decimal_step, length-decimal-le}
-use Rattle.std.proofs.lemmas.List.{append_assoc, append-nil, drop-drop, drop-replicate, drop-set-lt, length-append, length-map, length_push, take_all, take_at, take_more_set}
+use Rattle.std.proofs.lemmas.List.{append_assoc, length-append, length-map, take_all}
 use Rattle.marks_lines.specs.Held.{Appends, text}
 use Rattle.marks_lines.specs.Replies.{number, word}
 use Rattle.marks_lines.specs.declared.digits.Digits.{Digits}
@@ -11,9 +11,6 @@ pub take_take_append : (n : ℕ) (xs ys : List ℕ) → take n (take n xs ++ ys)
 take_take_append zero xs ys = refl
 take_take_append (suc n) [] ys = refl
 take_take_append (suc n) (x ∷ xs) ys = ap (λ zs. x ∷ zs) (take_take_append n xs ys)
-
-pub appends_nothing : {n : ℕ} (l : Held n) → Appends l [] l
-appends_nothing {n} l = record { all = sym (take_all n (text l ++ []) (rw append-nil (simp length-take (omega (arith, l.short)))) ∙ append-nil (text l)) }
 
 pub appends_more : {n : ℕ} {k l m : Held n} {xs ys : List ℕ} → Appends k xs l → Appends l ys m → Appends k (xs ++ ys) m
 appends_more {n} {k} {l} {m} {xs} {ys} p q = record {
@@ -26,21 +23,6 @@ appends_same {n} {k} {l} e p = subst (λ zs. Appends k zs l) e p
 pub whole_line : {n : ℕ} (k l : Held n) {m : Held n} {xs : List ℕ} (byte : ℕ) → text k ≡ [] → length xs < n → Appends k xs l → Appends l (byte ∷ []) m → text m ≡ xs ++ byte ∷ []
 whole_line {n} k l {m} {xs} byte none short p q =
     (appends_more p q).all ∙ ap (λ t. take n (t ++ (xs ++ byte ∷ []))) none ∙ take_all n (xs ++ byte ∷ []) (omega (arith, length-append xs (byte ∷ [])))
-
--- One byte more, where there is room and where there is none.
-module _ (n : ℕ) (bytes : List ℕ) (len byte : ℕ) (size : length bytes ≡ n) where
-  pub pushed : len < n → take (len + 1) (set bytes len byte) ≡ take n (take len bytes ++ byte ∷ [])
-  pushed h =
-      let kept = length-take-le len bytes (omega arith) in
-      take_more_set bytes len byte (omega arith) ∙ sym (take_all n (take len bytes ++ byte ∷ []) (simp length_push (omega arith)))
-
-  pub zeros_left : len < n → drop len bytes ≡ replicate (n - len) 0 → drop (len + 1) (set bytes len byte) ≡ replicate (n - (len + 1)) 0
-  zeros_left h zeros =
-      let rest : n - len - 1 ≡ n - (len + 1) = omega arith in
-      drop-set-lt (len + 1) bytes len byte (omega arith) ∙ sym (drop-drop 1 len bytes) ∙ ap (λ (bs : List ℕ). drop 1 bs) zeros ∙ drop-replicate 1 (n - len) 0 ∙ ap (λ k. replicate k 0) rest
-
-pub full : {n : ℕ} (l : Held n) (byte : ℕ) → n ≤ l.len → length l.bytes ≡ n → Appends l (byte ∷ []) l
-full {n} l byte h size = record { all = sym (take_at (text l) (byte ∷ []) n (length-take-le l.len l.bytes (omega (arith, l.short)) ∙ omega (arith, l.short))) }
 
 module _ {n : ℕ} {l m s : Held n} (x : ℕ) (same : s ≡ m) (last : Appends s ((48 + x % 10) ∷ []) l) where
   pub decimal_more : {k : Held n} → 10 ≤ x → x < 2 ^ 64 → Appends k (decimal (x / 10)) m → Appends k (decimal x) l

@@ -13,9 +13,6 @@ pub record Taken (gives : ℕ → Option ℕ → Type 0) (bytes : List ℕ) (i :
   pub small : (k : ℕ) → get_or s k 0 < 10
   pub same : (k : ℕ) → k < i → gives (get_or bytes k 0) (Some (get_or s k 0))
 
-pub taken_none : (gives : ℕ → Option ℕ → Type 0) (bytes : List ℕ) → Taken gives bytes 0 []
-taken_none gives bytes = record { size = refl; small = λ k. omega arith; same = λ k h. absurd (omega arith) }
-
 module _ {gives : ℕ → Option ℕ → Type 0} {bytes s : List ℕ} {i v : ℕ} (w : Taken gives bytes i s) (room : i < 64) (small : v < 10) where
   last_small : (k : ℕ) → get_or (v ∷ []) k 0 < 10
   last_small zero = small

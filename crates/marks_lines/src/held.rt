@@ -4,7 +4,7 @@ ghost use Rattle.std.specs.Prelude.{◌≡◌, ◌-◌, ◌≤◌, drop, replica
 // Equal bytes are held in one way, since the buffer is 0 past them.
 #[derive(Clone, Copy, Debug, PartialEq, Eq)]
 pub struct Held<const N: usize> {
-    bytes: [u8; N],
+    pub(crate) bytes: [u8; N],
     len: usize,
     ghost short: { len ≤ N },
     ghost zeros: { drop len bytes ≡ replicate (N - len) 0 },
@@ -14,7 +14,7 @@ impl<const N: usize> Held<N> {
     ghost use Rattle.std.specs.Prelude.{◌≡◌, [], ◌∷◌, IsTrue, ◌↔◌};
     ghost use Rattle.marks_lines.specs.Held.{Appends, text};
 
-    pub fn new() -> Self
+    pub(crate) fn new() -> Self
         ensures { text result ≡ [] }
     {
         Held {
@@ -24,25 +24,22 @@ impl<const N: usize> Held<N> {
     }
 
     // What there is no room for is left out.
-    pub fn push(&mut self, byte: u8)
+    pub(crate) fn push(&mut self, byte: u8)
         ensures { Appends self.old (byte ∷ []) self.new }
     {
         self.extend(&[byte]);
     }
 
-    pub fn extend(&mut self, bytes: &[u8])
+    pub(crate) fn extend(&mut self, bytes: &[u8])
         ensures { Appends self.old bytes.now self.new }
     {
-        // Byte by byte: after `copy_from_slice` into a part of `bytes[..]`, a proof has no name for the buffer.
-        for byte in bytes {
-            if self.len < N {
-                self.bytes[self.len] = *byte;
-                self.len += 1;
-            }
-        }
+        let n = bytes.len().min(N - self.len);
+        let buffer = &mut self.bytes[..];
+        buffer[self.len..self.len + n].copy_from_slice(&bytes[..n]);
+        self.len += n;
     }
 
-    pub fn is_empty(&self) -> bool
+    pub(crate) fn is_empty(&self) -> bool
         ensures { IsTrue result ↔ (text self.now ≡ []) }
     {
         self.len == 0

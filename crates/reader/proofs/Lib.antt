@@ -1,4 +1,3 @@
-pub mod BufferChecks
 pub mod CheckLists
 pub mod InForce
 pub mod Loading

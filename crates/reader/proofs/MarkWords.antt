@@ -1,10 +1,10 @@
 -- Words as a reader stores them, from a list of symbols.
-use Rattle.std.proofs.Common.{◌≡◌, ℕ, ◌<◌, ◌≤◌, cond, eqb, List, length, sym, ap, ◌∙◌, ⊎_elim, arith}
-use Rattle.std.proofs.lemmas.Bool.{cases_lt, cond-false, ne_eqb}
+use Rattle.std.proofs.Common.{◌≡◌, ℕ, ◌<◌, ◌≤◌, List, length, sym, ap, ◌∙◌, ⊎_elim, arith}
+use Rattle.std.proofs.lemmas.Bool.{cases_lt}
 use Rattle.words.specs.Stored.{Stores}
 use Rattle.words.specs.Words.{at, tabulate}
 use Rattle.words.specs.declared.word.Word.{Word}
-use Rattle.words.proofs.Tabulate.{at_past, at_tabulate, at_tabulate_past, tabulate_ext, tabulate_is}
+use Rattle.words.proofs.Tabulate.{at_past, at_tabulate, at_tabulate_past, tabulate_is}
 
 pub of_stores : (n : ℕ) (e : List ℕ) (r : Word) → n ≤ 64 → length e ≡ n → r.symbols ≡ tabulate 64 (at e) → Stores n r e
 of_stores n e r few size made = record {

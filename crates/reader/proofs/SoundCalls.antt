@@ -56,7 +56,7 @@ module _ {k : Symbols} {g : Dots} (c : Code) (sound : SoundCode k g c) where
     refl,
   )
 
-  abbrev first_checks : ℕ → List ℕ → List ℕ → List ℕ → List Check
+  abbrev pub first_checks : ℕ → List ℕ → List ℕ → List ℕ → List Check
   first_checks x r b m = length_check (length r) g.order 0 ∷ length_check (length b) g.order 1 ∷ length_check (length m) x 2 ∷ range_check k.order r ∷ []
 
   abbrev last_checks : List ℕ → List Check
@@ -87,6 +87,10 @@ module _ {k : Symbols} {g : Dots} (c : Code) (sound : SoundCode k g c) where
   few : c.radius ≤ 3
   few = let (_, (_, (few, _))) = sound.passes in few
 
+  -- p is a pattern of r with its number of turns, of which a record can be made
+  abbrev pub Found : List ℕ → List ℕ → ℕ → Type 0
+  Found r p turns = Pattern k g (word g.order c.word) c.radius r p × TurnCount g p turns × (weight p ≤ 3) × (weight p ≡ 0 → turns ≡ 0) × (turns ≡ 0 → weight p ≡ 0)
+
   module _ (field : FieldLaws k) (group : GroupLaws g) (r b m : List ℕ) (passed : Passed (first_checks c.basis.count r b m)) (mark : Word) (of : mark.symbols ≡ tabulate 64 (at r)) where
     received_stored : word g.order mark ≡ r
     received_stored = (of_stores g.order r mark group.most passed.0 of).value
@@ -99,16 +103,18 @@ module _ {k : Symbols} {g : Dots} (c : Code) (sound : SoundCode k g c) where
         search e c.radius r (passes_lawful k g e c.radius sound.passes) (lawful_from_checks k g.order r size range) sound.book apart
         (subst (λ w. Stores g.order s (syndrome k g e w)) received_stored stores)
 
-    -- the record of the pattern p can be made
-    pub recorded : (p : List ℕ) (turns : ℕ) → Pattern k g (word g.order c.word) c.radius r p → TurnCount g p turns → (weight p ≤ 3) × (weight p ≡ 0 → turns ≡ 0) × (turns ≡ 0 → weight p ≡ 0)
+    -- of what the search finds a record can be made
+    pub recorded : (p : List ℕ) (turns : ℕ) → Pattern k g (word g.order c.word) c.radius r p → TurnCount g p turns → Found r p turns
     recorded p turns pattern count = (
+      pattern,
+      count,
       omega (arith, few, pattern.1),
       λ z. turn_count_of_nought group p turns count (nought_from_weight g.order p pattern.0.0 z),
       λ z. ap weight (nought_from_turn_count group p turns count z) ∙ weight_nought g.order,
     )
 
-    pub read_mended : (p whole : Word) (a : ReadRecord) (b' m' : List ℕ) → Pattern k g (word g.order c.word) c.radius r (word g.order p) → TurnCount g (word g.order p) a.turns → Stores g.order whole (less k g.order (word g.order mark) (word g.order p)) → a.wrong ≡ weight (word g.order p) → b' ≡ tabulate (length b) (at whole.symbols) → m' ≡ chosen (basis_dots c.basis) (word g.order whole) → Reads k g (code_of g.order (Some c)) r b m (Ok a) b' m'
-    read_mended p whole a b' m' pattern count stores weighed copy message =
+    pub read_mended : (p whole : Word) (a : ReadRecord) (b' m' : List ℕ) → Found r (word g.order p) a.turns → Stores g.order whole (less k g.order (word g.order mark) (word g.order p)) → a.wrong ≡ weight (word g.order p) → b' ≡ tabulate (length b) (at whole.symbols) → m' ≡ chosen (basis_dots c.basis) (word g.order whole) → Reads k g (code_of g.order (Some c)) r b m (Ok a) b' m'
+    read_mended p whole a b' m' (pattern, count, _, _, _) stores weighed copy message =
         let q = word g.order p in
         let e = word g.order c.word in
         let taken : b' ≡ word g.order whole = copied g.order _ b b' whole passed.1.0 refl copy in (

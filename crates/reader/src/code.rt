@@ -1,4 +1,5 @@
-// A code that a reader holds: its word, its radius, its basis and its book.
+// A code that a reader holds: its word, its radius, its basis and its book. The algebra comes with each call, since the
+// reader holds it beside the code.
 mod judge;
 mod uses;
 

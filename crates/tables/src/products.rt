@@ -1,4 +1,5 @@
-// The products of n dots, as rows of a table that was handed in: row a, column b has a times b, and each entry is a dot.
+// The products of n dots, as rows of a table that was handed in: row a, column b has a times b, and each entry is
+// a dot.
 // The checks that such a table has to pass stand in the order in which it is judged.
 ghost use Rattle.std.specs.Prelude.{◌≡◌, ℕ, ◌+◌, ◌*◌, ◌<◌, [], ◌∷◌, ◌↔◌, IsTrue, MatchOption, MatchResult, slice_index};
 ghost use Rattle.algebra.specs.Checks.{Judged};
@@ -65,6 +66,7 @@ impl<'a> Products<'a> {
         }
     }
 
+    // A dot is a plain number, as in `Group`: a type for the dots below the order would be unwrapped at each index.
     fn product(&self, a: usize, b: usize) -> usize
         requires row { a < self.now.order }
         requires column { b < self.now.order }

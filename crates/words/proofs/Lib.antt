@@ -1,3 +1,4 @@
+pub mod BufferChecks
 pub mod Chief
 pub mod CodeWords
 pub mod Counting

@@ -17,8 +17,8 @@ pub struct GroupAlgebra<F, G> {
     group: G,
 }
 
-// In the contracts k is what the field means, g what the group means and n the number of dots. Definitions for these three would have to
-// take the members `symbols` and `dots` of the two traits as arguments, and be no shorter.
+// In the contracts k is what the field means, g what the group means and n the number of dots. Definitions for these
+// three would have to take the members `symbols` and `dots` of the two traits as arguments, and be no shorter.
 impl<F: Field, G: Group> GroupAlgebra<F, G> {
     pub fn new(field: F, group: G) -> GroupAlgebra<F, G>
         ensures made { result ≡ record { field = field; group = group } }

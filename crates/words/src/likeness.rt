@@ -3,7 +3,7 @@ ghost use Rattle.std.specs.Prelude.{◌≡◌, ◌<◌, length, MatchBool};
 ghost use Rattle.algebra.specs.Checks.{Judged};
 ghost use Rattle.words.specs.Turns.{LeastTurn, Turned, alike_checks};
 
-use crate::checks::check_length;
+use crate::checks::check_lengths;
 use algebra::{Fault, Group};
 
 // The least dot by which the first mark turns into the second, if there is one.
@@ -11,8 +11,7 @@ pub fn alike<G: Group>(group: &G, first: &[u8], second: &[u8]) -> Result<Option<
     ensures { Judged (alike_checks (G.Group.dots group.now).order (length first.now) (length second.now)) result (λ j. LeastTurn (G.Group.dots group.now) first.now second.now j) }
 {
     let n = group.order();
-    check_length(first.len(), n, 0)?;
-    check_length(second.len(), n, 1)?;
+    check_lengths(&[(first.len(), n), (second.len(), n)])?;
     Ok((0..n).find(|&g| turns_into(group, g, first, second)))
 }
 
@@ -21,5 +20,8 @@ fn turns_into<G: Group>(group: &G, g: usize, first: &[u8], second: &[u8]) -> boo
     requires second { length second.now ≡ (G.Group.dots group.now).order }
     ensures { MatchBool result (Turned (G.Group.dots group.now) g first.now second.now) (Turned (G.Group.dots group.now) g first.now second.now → ⊥) }
 {
-    (0..group.order()).all(|h| second[group.product(g, h)] == first[h])
+    first
+        .iter()
+        .enumerate()
+        .all(|(h, x)| second[group.product(g, h)] == *x)
 }

@@ -3,7 +3,7 @@ ghost use Rattle.std.specs.Prelude.{◌≡◌, length, OnErr};
 ghost use Rattle.algebra.specs.Checks.{Judged};
 ghost use Rattle.words.specs.Turns.{Turned, turn_checks};
 
-use crate::checks::check_length;
+use crate::checks::check_lengths;
 use algebra::{Fault, Group};
 
 // Turns by dot g: what hangs on dot h of the source hangs on dot g times h of the target.
@@ -17,8 +17,7 @@ pub fn turn<G: Group, T: Copy>(
     ensures kept { OnErr result (target.new ≡ target.old) }
 {
     let n = group.order();
-    check_length(source.len(), n, 0)?;
-    check_length(target.len(), n, 1)?;
+    check_lengths(&[(source.len(), n), (target.len(), n)])?;
     if g >= n {
         return Err(Fault::dot());
     }

@@ -2,8 +2,8 @@
 ghost use Rattle.std.specs.Prelude.{◌≡◌, length};
 ghost use Rattle.words.specs.Words.{at, nought, tabulate};
 
-// Always 64 symbols, as words are copied like numbers, with no heap. A word knows no field, so that its symbols lie below an
-// order is a premise where it is needed.
+// Always 64 symbols, as words are copied like numbers, with no heap. A word knows no field, so that its symbols
+// lie below an order is a premise where it is needed.
 #[derive(Clone, Copy, PartialEq, Eq, Debug)]
 pub struct Word {
     pub(crate) symbols: [u8; 64],

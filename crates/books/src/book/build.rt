@@ -9,7 +9,9 @@ use crate::book::{Book, Placed, Row};
 use algebra::{Field, Group};
 use words::{GroupAlgebra, Word};
 
-// The rows are filled one at a time, by nested loops over dots and symbols. The algebra and e come with each call: a struct of the two would serve these calls alone.
+// The rows are filled one at a time, by nested loops over dots and symbols.
+// The algebra and e come with each call: a reader holds the one and its code the other, and a struct that borrows
+// both would be made anew in each call.
 impl Book {
     // Adds the row with these symbols.
     fn add<F: Field, G: Group>(
@@ -63,13 +65,12 @@ impl Book {
     pub fn of<F: Field, G: Group>(algebra: &GroupAlgebra<F, G>, e: &Word, t: u8) -> Book
         ensures { let k = F.Field.symbols algebra.now.field in let g = G.Group.dots algebra.now.group in t ≤ 3 → rows g.order k.order t ≤ 4096 → BookOf k g (word g.order e.now) t result }
     {
-        let none = Placed { dot: 0, symbol: 0 };
         let mut book = Book::empty();
         if t >= 1 {
-            book.add(algebra, e, none, none);
+            book.add(algebra, e, Placed::NOTHING, Placed::NOTHING);
         }
         if t >= 2 {
-            book.add_seconds(algebra, e, none);
+            book.add_seconds(algebra, e, Placed::NOTHING);
         }
         if t >= 3 {
             book.add_pairs(algebra, e);

@@ -2,7 +2,8 @@
 ghost use Rattle.std.specs.Prelude.{◌≡◌, ◌≤◌};
 ghost use Rattle.codes.specs.GroupCodes.{rows};
 
-// The number of words of weight at most t with symbol 1 at dot 0, over n dots and q symbols, of which at most 64 and 16 count.
+// The number of words of weight at most t with symbol 1 at dot 0, over n dots and q symbols. Fewer than one count as
+// one, more than 64 dots as 64, and more than 16 symbols as 16. Any t is taken, and t up to 3 is what is promised.
 pub fn row_count(n: usize, q: u8, t: u8) -> usize
     ensures { n ≤ 64 → q ≤ 16 → t ≤ 3 → result ≡ rows n q t }
 {

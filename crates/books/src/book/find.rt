@@ -7,7 +7,8 @@ use crate::book::Book;
 use crate::book::push::bucket;
 use words::Word;
 
-// Whether all 64 symbols are the same. The words come by value, since behind a `&` a proof does not know that they have 64.
+// Whether all 64 symbols are the same. The words come by value, since behind a `&` a proof does not know that
+// they have 64.
 fn same(u: Word, v: Word) -> bool
     ensures { MatchBool result (word 64 u ≡ word 64 v) (word 64 u ≢ word 64 v) }
 {

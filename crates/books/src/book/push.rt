@@ -19,10 +19,9 @@ impl Book {
     pub fn empty() -> Book
         ensures { result.count ≡ 0 }
     {
-        let none = Placed { dot: 0, symbol: 0 };
         let row = Row {
-            first: none,
-            second: none,
+            first: Placed::NOTHING,
+            second: Placed::NOTHING,
             syndrome: Word::zero(),
             earlier: None,
         };

@@ -8,7 +8,7 @@ use crate::basis::{Basis, BasisRow};
 use algebra::{Field, Group};
 use words::{GroupAlgebra, Word};
 
-// For each dot that is a pivot, its word.
+// For each dot that is a pivot, its word. The algebra comes with each call, since the reader holds it.
 #[derive(Clone, Copy)]
 pub struct Elimination {
     rows: [Option<Word>; 64],

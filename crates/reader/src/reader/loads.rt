@@ -21,7 +21,7 @@ impl<F: Field, G: Group> Reader<F, G> {
     }
 
     // Puts the code of e and t in force, and answers the number of message dots and of rows.
-    // The rules have these two as a plain pair.
+    // A plain pair, by a rule of the project.
     pub fn load(&mut self, e: &[u8], t: u8) -> Result<(usize, usize), Fault>
         ensures answer { Loads (F.Field.symbols self.old.algebra.field) (G.Group.dots self.old.algebra.group) e.now t result }
         ensures kept { OnErr result (self.new ≡ self.old) }

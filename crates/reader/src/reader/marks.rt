@@ -61,7 +61,7 @@ impl<F: Field, G: Group> Reader<F, G> {
     }
 
     // The number of message dots, the radius, and the number of rows of the book.
-    // The rules have these three as a plain triple.
+    // A plain triple, by a rule of the project.
     pub fn facts(&self) -> Result<(usize, usize, usize), Fault>
         ensures answer { let k = F.Field.symbols self.now.algebra.field in let g = G.Group.dots self.now.algebra.group in Facts k g (code_of g.order self.now.code) result }
         ensures lived { let k = F.Field.symbols self.now.algebra.field in let g = G.Group.dots self.now.algebra.group in (past : List Call) → Lived k g past self.now.code → Lived k g (facts_of ∷ past) self.now.code }

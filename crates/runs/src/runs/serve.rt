@@ -51,7 +51,7 @@ pub fn serve<F: Field, G: Group>(reader: &mut Reader<F, G>, call: &Call) -> Repl
     }
 }
 
-// A read has two outputs and a law, so that it has a function of its own.
+// A read has two outputs and a law, so that it has a function of its own. Its buffers have 65 bytes at most, too.
 fn serve_read<F: Field, G: Group>(
     reader: &Reader<F, G>,
     received: &[u8],
@@ -76,7 +76,8 @@ fn plain(answer: Result<Answer, Fault>) -> Reply
     shown(answer, &[], &[])
 }
 
-// A reply with what the call writes into a buffer of this length, or of 65 bytes, which are too many for any group.
+// A reply with what the call writes into a buffer of this length, or of 65 bytes, which are too many for any group: so there
+// is no heap.
 fn filled<C: FnOnce(&mut [u8]) -> Result<(), Fault>>(
     length: usize,
     answer: Answer,

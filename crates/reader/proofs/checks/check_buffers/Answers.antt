@@ -1,18 +1,11 @@
-use Rattle.std.proofs.Common.{Some, None, rules}
-use borrow.Author.Tests.{tests}
-use Rattle.std.proofs.lemmas.Iterator.{IsFirst-from_position, YieldsList-from_slice}
-use Rattle.reader.proofs.BufferChecks.{Fits, Misfits, first_misfit, lengths_fit}
+use Rattle.std.proofs.lemmas.Result.{err_from_is_err_and}
 use Rattle.reader.proofs.CheckLists.{judged_after, refused_before}
 use Rattle.reader.proofs.checks.check_buffers.Goals as goal
 
-pub returns-in-Some : goal.returns-in-Some
-returns-in-Some c =
-    let ls = c.args.lengths.now in
-    let first = IsFirst-from_position _ _ (Some c.in-Some.buffer) Misfits Fits c.in-Some.ensures.ran (YieldsList-from_slice ls cc) (λ x q k. search (rules, tests)) (λ x q k. search (rules, tests)) in
-    rw c.length.ensures (refused_before _ _ _ (first_misfit ls c.in-Some.buffer first.0 first.1 first.2))
+pub returns-in_err-check_lengths : goal.returns-in_err-check_lengths
+returns-in_err-check_lengths c =
+    let p = err_from_is_err_and c.from_residual.result c.from_residual.ensures.1 in
+    rw (p.1, p.2) (refused_before _ _ _ c.in_err-check_lengths.ensures)
 
 pub returns : goal.returns
-returns c =
-    let ls = c.args.lengths.now in
-    let all = IsFirst-from_position _ _ None Misfits Fits c.in_default.ensures.ran (YieldsList-from_slice ls cc) (λ x q k. search (rules, tests)) (λ x q k. search (rules, tests)) in
-    judged_after _ _ _ (lengths_fit ls 0 all) c.check_symbols.ensures
+returns c = judged_after _ _ _ c.in_ok-check_lengths.ensures.0 c.check_symbols.ensures

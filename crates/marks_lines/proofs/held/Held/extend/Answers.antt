@@ -1,21 +1,32 @@
-use Rattle.std.proofs.Common.{sym, ◌∙◌, arith, length-set}
-use Rattle.std.proofs.lemmas.List.{take_more}
-use Rattle.marks_lines.proofs.Appending.{appends_more, appends_same, full, pushed, zeros_left}
+use Rattle.std.proofs.Common.{◌≡◌, ℕ, List, ◌+◌, ◌-◌, ◌≤◌, length, take, drop, replicate, min, ◌++◌, rules, arith, sym, ap, ◌∙◌, length-take-le}
+use Rattle.std.proofs.lemmas.Slice.{take-put_mid, drop-put_mid}
+use Rattle.std.proofs.lemmas.List.{drop-drop, drop-replicate, take_min}
+use Rattle.std.proofs.Math.Seq.{take-append-add}
+use borrow.Rule.Slice.PartMut.{put_mid}
 use Rattle.marks_lines.proofs.held.Held.extend.Goals as goal
-use Rattle.marks_lines.proofs.held.Held.extend.Goals.{then-self, else-self}
 
-pub invariant_of-self : goal.invariant_of-self
-invariant_of-self g c = record {
-  short = omega arith;
-  zeros = zeros_left g.row.N c.loop-byte.self.bytes c.loop-byte.self.len _ c.loop-byte.invariant.0 (omega arith) c.loop-byte.self.zeros;
-}
+module _ (N len n : ℕ) (bytes bs ys : List ℕ) (size : length bytes ≡ N) (room : len ≤ N) (many : n ≡ min (length bs) (N - len)) (copied : ys ≡ take n bs) where
+  long : length ys ≡ n
+  long = ap length copied ∙ length-take-le n bs (omega arith)
 
-pub loop-byte-preserved : goal.loop-byte-preserved
-loop-byte-preserved g c =
-    let l = c.loop-byte.self in
-    let size = c.loop-byte.invariant.0 in
-    let more = sym (take_more c.args.bytes.now c.loop-byte.byte-index 0 c.loop-byte-test.true) in
-    elim c.if-self.branch [
-      | then-self w ↦ rw w.self-is (length-set l.bytes l.len _ ∙ size, appends_same more (appends_more c.loop-byte.invariant.1 (record { all = pushed g.row.N l.bytes l.len _ size (omega (arith, w.if-self.true)) })))
-      | else-self w ↦ rw w.self-is (size, appends_same more (appends_more c.loop-byte.invariant.1 (full l _ (omega (arith, w.if-self.false)) size)))
-    ]
+  written : take (len + n) (put_mid len (len + n - len) bytes ys) ≡ take N (take len bytes ++ bs)
+  written =
+      take-put_mid len (len + n - len) bytes ys (len + n) (omega (arith, long)) (omega (arith, size))
+      ∙ ap (λ zs. take len bytes ++ zs) (copied ∙ ap (λ k. take k bs) (omega (arith, many)) ∙ take_min (N - len) bs)
+      ∙ sym (take-append-add (take len bytes) bs (N - len))
+      ∙ ap (λ k. take k (take len bytes ++ bs)) (omega (arith, length-take-le len bytes (omega (arith, size))))
+
+  rest : drop len bytes ≡ replicate (N - len) 0 → drop (len + n) (put_mid len (len + n - len) bytes ys) ≡ replicate (N - (len + n)) 0
+  rest zeros =
+      drop-put_mid len (len + n - len) bytes ys (len + n) (omega arith) (omega (arith, size)) (omega (arith, long))
+      ∙ sym (drop-drop n len bytes) ∙ ap (λ (zs : List ℕ). drop n zs) zeros ∙ drop-replicate n (N - len) 0 ∙ ap (λ k. replicate k 0) (omega arith)
+
+pub invariant_of-self-clause-zeros : goal.invariant_of-self-clause-zeros
+invariant_of-self-clause-zeros g c =
+    let l = c.args.self.now in
+    rest g.row.N l.len c.min-n.result l.bytes c.args.bytes.now c.copy_from_slice.new.self (search rules) l.short c.min-n.ensures (search rules) l.zeros
+
+pub returns : goal.returns
+returns g c =
+    let l = c.args.self.now in
+    record { all = written g.row.N l.len c.min-n.result l.bytes c.args.bytes.now c.copy_from_slice.new.self (search rules) l.short c.min-n.ensures (search rules) }

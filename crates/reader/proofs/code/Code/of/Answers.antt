@@ -1,36 +1,7 @@
 use Rattle.std.proofs.Common.{refl, subst}
-use Rattle.std.proofs.lemmas.Result.{err_from_is_err_and}
 use Rattle.reader.specs.Loads.{Passes}
-use Rattle.reader.proofs.Loading.{close, keeps, lawful, not_central, not_idempotent, passes}
+use Rattle.reader.proofs.Loading.{keeps, lawful, passes}
 use Rattle.reader.proofs.code.Code.of.Goals as goal
-
-pub returns-in_err-check_idempotent : goal.returns-in_err-check_idempotent
-returns-in_err-check_idempotent g c =
-    let k = g.F.Field.symbols c.args.algebra.now.field in
-    let dots = g.G.Group.dots c.args.algebra.now.group in
-    let p = err_from_is_err_and c.from_residual-in_err-check_idempotent.result c.from_residual-in_err-check_idempotent.ensures.1 in
-    let w = c.in_ok-word.ensures in
-    rw (p.1, p.2) (not_idempotent k dots c.in_ok-word.word c.args.e.now c.args.t w.1 w.0 _ c.in_err-check_idempotent.ensures)
-
-pub returns-in_err-check_central : goal.returns-in_err-check_central
-returns-in_err-check_central g c =
-    let k = g.F.Field.symbols c.args.algebra.now.field in
-    let dots = g.G.Group.dots c.args.algebra.now.group in
-    let p = err_from_is_err_and c.from_residual-in_err-check_central.result c.from_residual-in_err-check_central.ensures.1 in
-    let w = c.in_ok-word.ensures in
-    rw (p.1, p.2)
-    (not_central k dots c.in_ok-word.word c.args.e.now c.args.t w.1 w.0 _ c.in_ok-check_idempotent.ensures.0.0 c.in_err-check_central.ensures)
-
-pub returns-then-too_close : goal.returns-then-too_close
-returns-then-too_close g c =
-    let k = g.F.Field.symbols c.args.algebra.now.field in
-    let dots = g.G.Group.dots c.args.algebra.now.group in
-    let w = c.in_ok-word.ensures in
-    let square = c.in_ok-check_idempotent.ensures.0.0 in
-    let book = c.of-book.ensures w.0.1.1.0 w.0.1.1.1.0 in
-    rw c.refuses.ensures
-    (close k dots c.in_ok-word.word c.args.e.now c.args.t w.1 w.0 square c.in_ok-check_central.ensures.0.0
-    (c.if-too_close.ensures _ _ (lawful k dots c.in_ok-word.word c.args.e.now c.args.t w.1 w.0) book))
 
 pub returns : goal.returns
 returns g c =

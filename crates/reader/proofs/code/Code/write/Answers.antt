@@ -1,11 +1,10 @@
-use Rattle.std.proofs.lemmas.Result.{err_from_is_err_and}
+use Rattle.algebra.proofs.Handed.{handed}
 use Rattle.reader.proofs.SoundCalls.{write_copied, write_refused}
 use Rattle.reader.proofs.code.Code.write.Goals as goal
 
 pub returns-in_err-check_buffers-clause-answer : goal.returns-in_err-check_buffers-clause-answer
 returns-in_err-check_buffers-clause-answer g c =
-    let p = err_from_is_err_and c.from_residual.result c.from_residual.ensures.1 in
-    rw (p.1, p.2)
+    rw (handed _ c.from_residual.ensures.1)
     (write_refused c.args.self.now c.requires c.args.message.now c.args.mark.now _ (rw (c.dots.ensures, c.symbols.ensures) at c.in_err-check_buffers.ensures))
 
 pub returns-clause-answer : goal.returns-clause-answer

@@ -1,11 +1,10 @@
-use Rattle.std.proofs.lemmas.Result.{err_from_is_err_and}
+use Rattle.algebra.proofs.Handed.{handed}
 use Rattle.reader.proofs.Loading.{loaded_answer, loaded_lived, refused_lived}
 use Rattle.reader.proofs.reader.Reader.load.Goals as goal
 
 pub returns-in_err-code-clause-answer : goal.returns-in_err-code-clause-answer
 returns-in_err-code-clause-answer g c =
-    let p = err_from_is_err_and c.from_residual.result c.from_residual.ensures.1 in
-    rw (← c.self.view_is, p.1, p.2) c.in_err-code.ensures
+    rw (← c.self.view_is, handed _ c.from_residual.ensures.1) c.in_err-code.ensures
 
 pub returns-in_err-code-clause-lived : goal.returns-in_err-code-clause-lived
 returns-in_err-code-clause-lived g c =

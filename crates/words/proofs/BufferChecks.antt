@@ -3,7 +3,7 @@ use Rattle.std.proofs.Common.{◌≡◌, ℕ, zero, suc, ◌+◌, ◌<◌, List,
 use Rattle.std.specs.List.{AllWithin, HoldsAt}
 use Rattle.algebra.specs.Checks.{Passed, Refused}
 use Rattle.algebra.specs.Refusals.{length_refused}
-use Rattle.reader.specs.Buffers.{length_checks}
+use Rattle.words.specs.Buffers.{length_checks}
 
 abbrev pub Fits : ℕ × ℕ → Type 0
 Fits l = l.0 ≡ l.1
