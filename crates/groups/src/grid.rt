@@ -24,7 +24,7 @@ impl<A: Group, B: Group> Group for Grid<A, B> {
 
     ghost lawful = { λ x. grid_laws (A.Group.dots x.a) (B.Group.dots x.b) (A.Group.lawful x.a) (B.Group.lawful x.b) };
 
-    // The group of one dot stands in for a grid of more than 64.
+    // By the rules the group of one dot stands in for a grid of more than 64.
     fn order(&self) -> usize {
         let n = self.a.order() * self.b.order();
         if n > 64 { 1 } else { n }

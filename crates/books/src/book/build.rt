@@ -61,7 +61,7 @@ impl Book {
         }
     }
 
-    // The book of the code of e for radius t.
+    // The book of the code of e for radius t. Any t is taken, and t up to 3 is what is promised.
     pub fn of<F: Field, G: Group>(algebra: &GroupAlgebra<F, G>, e: &Word, t: u8) -> Book
         ensures { let k = F.Field.symbols algebra.now.field in let g = G.Group.dots algebra.now.group in t ≤ 3 → rows g.order k.order t ≤ 4096 → BookOf k g (word g.order e.now) t result }
     {

@@ -35,7 +35,7 @@ impl Row {
 }
 
 impl Book {
-    // The word of the i-th row, and the zero word from 4096 on.
+    // The word of the i-th row, and the zero word from 4096 on: a public function that cannot fail.
     pub fn row_word<F: Field, G: Group>(&self, algebra: &GroupAlgebra<F, G>, i: usize) -> Word
         ensures { let n = (G.Group.dots algebra.now.group).order in i < 4096 → Stores n result (row_word n (row_at self.now i)) }
     {

@@ -41,6 +41,8 @@ impl Code {
     }
 }
 
+// The algebra and e come with each check: a struct that borrows both would be made anew in each call.
+
 // The word of e, if the sizes are right: its length, its symbols, the radius and the number of rows.
 fn sized<F: Field, G: Group>(algebra: &GroupAlgebra<F, G>, e: &[u8], t: u8) -> Result<Word, Fault>
     ensures { let k = F.Field.symbols algebra.now.field in let n = (G.Group.dots algebra.now.group).order in Judged (length_check (length e.now) n 0 ∷ range_check k.order e.now ∷ asked (t ≤ 3) radius_refused ∷ asked (rows n k.order t ≤ 4096) book_refused ∷ []) result (λ w. word n w ≡ e.now) }

@@ -9,6 +9,7 @@ use crate::reader::Reader;
 use algebra::{Fault, Field, Group};
 use words::GroupAlgebra;
 
+// The clauses `lived` speak of every past, which no field of a reader could hold.
 impl<F: Field, G: Group> Reader<F, G> {
     pub fn new(field: F, group: G) -> Reader<F, G>
         ensures made { result ≡ record { algebra = record { field = field; group = group }; code = None } }

@@ -12,6 +12,7 @@ use reader::Reader;
 use std::array;
 
 // Hands the call on to the reader's own method.
+// The clauses that take a past speak of every past, which no field of a reader could hold.
 #[tactic(auto, using(reader::proofs::InForce::lived_on))]
 pub fn serve<F: Field, G: Group>(reader: &mut Reader<F, G>, call: &Call) -> Reply
     ensures same { reader.new.algebra ≡ reader.old.algebra }
@@ -76,8 +77,8 @@ fn plain(answer: Result<Answer, Fault>) -> Reply
     shown(answer, &[], &[])
 }
 
-// A reply with what the call writes into a buffer of this length, or of 65 bytes, which are too many for any group: so there
-// is no heap.
+// A reply with what the call writes into a buffer of this length, or of 65 bytes, which are too many for any group:
+// so there is no heap.
 fn filled<C: FnOnce(&mut [u8]) -> Result<(), Fault>>(
     length: usize,
     answer: Answer,
