@@ -1,27 +1,19 @@
 -- The refusals, and what each tells.
+--     number x             the number of the refusal x
 --     refusals             each refusal with its number, in their order
 --     Numbered x n         n is the number of the refusal x
---     number x             that number
+--     part_text p          the name of the part p
 --     parts                each part with its name
 --     Named p name         name is the name of the part p
---     part_text p          that name
 --     fault_text f         what is printed of the fault f
 --     order_refused p ..   the fault of each refusal, with its part and its place
-use Rattle.std.specs.Prelude.{◌≡◌, ℕ, ◌<◌, List, [], ◌∷◌, ◌++◌, length, codes, slice_index_or}
+use Rattle.std.specs.Prelude.{◌≡◌, ℕ, ◌<◌, List, [], ◌∷◌, ◌++◌, length, map, codes, slice_index_or}
 use Rattle.std.specs.Fmt.{decimal}
 use Rattle.algebra.specs.declared.fault.Refusal.{Refusal}
 use Rattle.algebra.specs.declared.fault.Refusal.TheVariants.{Order, TableSize, Entry, Identity, Inverse, Association, NoCode, Length, Range, Radius, Book, NotIdempotent, NotCentral, TooClose, OutOfReach}
 use Rattle.algebra.specs.declared.fault.Part.{Part}
 use Rattle.algebra.specs.declared.fault.Part.TheVariants.{Symbols, Dots, Reader}
 use Rattle.algebra.specs.declared.fault.Fault.{Fault}
-
-abbrev pub refusals : List (Refusal × ℕ)
-refusals =
-    (Order, 1) ∷ (TableSize, 2) ∷ (Entry, 3) ∷ (Identity, 4) ∷ (Inverse, 5) ∷ (Association, 6) ∷ (NoCode, 7) ∷ (Length, 8) ∷ (Range, 9)
-    ∷ (Radius, 10) ∷ (Book, 11) ∷ (NotIdempotent, 12) ∷ (NotCentral, 13) ∷ (TooClose, 14) ∷ (OutOfReach, 15) ∷ []
-
-abbrev pub Numbered : Refusal → ℕ → Type 0
-Numbered x n = (i : ℕ) × (i < length refusals) × (slice_index_or refusals i (x, 0) ≡ (x, n))
 
 abbrev pub number : Refusal → ℕ
 number Order = 1
@@ -40,16 +32,25 @@ number NotCentral = 13
 number TooClose = 14
 number OutOfReach = 15
 
-abbrev pub parts : List (Part × List ℕ)
-parts = (Symbols, codes "symbols") ∷ (Dots, codes "dots") ∷ (Reader, codes "reader") ∷ []
+abbrev pub refusals : List (Refusal × ℕ)
+refusals =
+    map (λ x. (x, number x))
+    (Order ∷ TableSize ∷ Entry ∷ Identity ∷ Inverse ∷ Association ∷ NoCode ∷ Length ∷ Range
+    ∷ Radius ∷ Book ∷ NotIdempotent ∷ NotCentral ∷ TooClose ∷ OutOfReach ∷ [])
 
-abbrev pub Named : Part → List ℕ → Type 0
-Named p name = (i : ℕ) × (i < length parts) × (slice_index_or parts i (p, []) ≡ (p, name))
+abbrev pub Numbered : Refusal → ℕ → Type 0
+Numbered x n = (i : ℕ) × (i < length refusals) × (slice_index_or refusals i (x, 0) ≡ (x, n))
 
 abbrev pub part_text : Part → List ℕ
 part_text Symbols = codes "symbols"
 part_text Dots = codes "dots"
 part_text Reader = codes "reader"
+
+abbrev pub parts : List (Part × List ℕ)
+parts = map (λ p. (p, part_text p)) (Symbols ∷ Dots ∷ Reader ∷ [])
+
+abbrev pub Named : Part → List ℕ → Type 0
+Named p name = (i : ℕ) × (i < length parts) × (slice_index_or parts i (p, []) ≡ (p, name))
 
 abbrev pub fault_text : Fault → List ℕ
 fault_text f = codes "rule " ++ decimal (number f.refusal) ++ codes ", part " ++ part_text f.part ++ codes ", place " ++ decimal f.place

@@ -55,12 +55,6 @@ second_dots n d p m t h e =
     let split : choose (n - d) 2 * (p * p) ≡ i * (p * p) + choose i 2 * (p * p) = ap (λ j. choose j 2 * (p * p)) here ∙ ap (λ j. j * (p * p)) (choose_two i) ∙ add-mul i (choose i 2) (p * p) in
     omega (arith, mul_left_comm p i p, ap (λ j. choose j 2 * (p * p)) next)
 
-pub first_dots_all : {k : Symbols} {g : Dots} {e : List ℕ} {b x : Book} (d n q m : ℕ) → d ≡ n → m + choose (n - d) 2 * ((q - 1) * (q - 1)) ≡ choose (n - 1) 2 * ((q - 1) * (q - 1)) → Adds k g e m (FirstDots d n q) b x → Adds k g e (choose (n - 1) 2 * ((q - 1) * (q - 1))) (FirstDots n n q) b x
-first_dots_all d n q m end sum adds =
-    let none : n - d ≡ 0 = omega arith in
-    let all : m ≡ choose (n - 1) 2 * ((q - 1) * (q - 1)) = omega (arith, ap (λ j. choose j 2 * ((q - 1) * (q - 1))) none) in
-    rw (all, end) at adds
-
 -- c has the rows of weight at most s more than b
 abbrev Lists : Symbols → Dots → List ℕ → ℕ → Book → Book → Type 0
 Lists k g e s b c = Adds k g e (rows g.order k.order s) (Listed g.order k.order s) b c

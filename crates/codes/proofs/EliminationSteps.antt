@@ -1,13 +1,12 @@
 -- The steps of the elimination as the program makes them.
 --     Clearing k n p b s d t     t is s with the words of the pivots below d cleared
---     ClearedRow k n p b r q     the row q holds the word of r cleared, or none as r does
 --     SpansTurns k g e js s      s is reduced, and the turns of e by the dots js are within s
 --     ListedBelow n s d rows m   the rows begin with the m pivots of s below d
-use Rattle.std.proofs.Common.{◌≡◌, ℕ, zero, suc, ◌+◌, ◌<◌, ◌≤◌, true, false, cond, eqb, ◌≢◌, List, [], ◌∷◌, ◌++◌, map, length, get_or, take, set, replicate, Option, Some, None, MatchOption, is_some, unwrap_or, sym, refl, ap, ◌∙◌, subst, ap₂, inl, inr, zero-add, arith}
+use Rattle.std.proofs.Common.{◌≡◌, ℕ, zero, suc, ◌+◌, ◌<◌, ◌≤◌, true, false, cond, eqb, ◌≢◌, List, [], ◌∷◌, ◌++◌, map, length, get_or, take, set, replicate, Option, Some, None, is_some, unwrap_or, sym, refl, ap, ◌∙◌, subst, ap₂, inl, inr, zero-add, arith}
 use Rattle.std.proofs.lemmas.List.{get_or-map, get_or_append_left, get_or_push, get_or-set_same, get_or-set_other, get_or-take, length-map, length-set, length-take, length_push, map-append, take_more_set}
 use Rattle.std.proofs.lemmas.List.FromFn.{get_or-range_with_len, length-range_with_len}
 use Rattle.std.specs.List.{range_with_len}
-use Rattle.std.proofs.lemmas.Bool.{both_ways, cases_eq, cond-true, cond-false, eq-eqb, ne_eqb}
+use Rattle.std.proofs.lemmas.Bool.{cases_eq, cond-true, cond-false, eq-eqb, ne_eqb}
 use Rattle.algebra.specs.Checks.{FirstWithout}
 use Rattle.algebra.specs.Fields.{Symbols, SumProductLaws, FieldLaws}
 use Rattle.algebra.specs.Groups.{Dots, GroupLaws}
@@ -62,18 +61,6 @@ module _ {k : Symbols} (laws : SumProductLaws k) {g : Dots} {e : List ℕ} (s : 
   pub residual_kept : get_or s.rows d None ≡ None → v ≡ u → v ≡ residual_below k g.order (pivot_at s) (word_at g.order s) w (d + 1)
   residual_kept none same = same ∙ left ∙ sym (residual_below_skip laws g.order (pivot_at s) (word_at g.order s) w d (ap is_some none))
 
--- what clearing at p makes of a row
-abbrev pub ClearedRow : Symbols → ℕ → ℕ → List ℕ → Option Word → Option Word → Type 0
-ClearedRow k n p b r q = MatchOption r (q ≡ None) (λ u. (w : Word) × (q ≡ Some w) × Stores n w (cleared k n p b (word n u)))
-
-cleared_row_pivot : (k : Symbols) (n p : ℕ) (b : List ℕ) (r q : Option Word) → ClearedRow k n p b r q → is_some q ≡ is_some r
-cleared_row_pivot k n p b None q h = ap is_some h
-cleared_row_pivot k n p b (Some u) q h = ap is_some h.1
-
-cleared_row_word : (k : Symbols) (n p : ℕ) (b : List ℕ) (r q : Option Word) → ClearedRow k n p b r q → is_some r ≡ true → row_word n q ≡ cleared k n p b (row_word n r)
-cleared_row_word k n p b None q h some = absurd (both_ways false refl some)
-cleared_row_word k n p b (Some u) q h _ = ap (row_word n) h.1 ∙ h.2.value
-
 row_here : (rows : List (Option Word)) (d : ℕ) (q : Option Word) → d < length rows → get_or (set rows d q) d None ≡ q
 row_here rows d q h = get_or-set_same rows d q None h
 
@@ -81,29 +68,6 @@ row_other : (rows : List (Option Word)) (d i : ℕ) (q : Option Word) → i ≢ 
 row_other rows d i q ne = get_or-set_other rows d i q None ne
 
 module _ (k : Symbols) (n p : ℕ) (b : List ℕ) (s : Elimination) where
-  pub clearing_none : Clearing k n p b s 0 s
-  clearing_none = record { many = refl; pivots = λ i. refl; below = λ i h _. absurd (omega arith); rest = λ i _. refl }
-
-  pub clearing_more : (d : ℕ) (t : Elimination) (q : Option Word) → d < length t.rows → ClearedRow k n p b (get_or t.rows d None) q → Clearing k n p b s d t → Clearing k n p b s (d + 1) (record { rows = set t.rows d q })
-  clearing_more d t q h row c = record {
-    many = length-set t.rows d q ∙ c.many;
-    pivots = λ i. elim (cases_eq i d) [
-      | inl e ↦
-          subst (λ j. pivot_at (record { rows = set t.rows d q }) j ≡ pivot_at s j) (sym e)
-          (ap is_some (row_here t.rows d q h) ∙ cleared_row_pivot k n p b (get_or t.rows d None) q row ∙ c.pivots d)
-      | inr ne ↦ ap is_some (row_other t.rows d i q ne) ∙ c.pivots i
-    ];
-    below = λ i l r. elim (cases_eq i d) [
-      | inl e ↦
-          subst (λ j. word_at n (record { rows = set t.rows d q }) j ≡ cleared k n p b (word_at n s j)) (sym e)
-          (ap (row_word n) (row_here t.rows d q h)
-          ∙ cleared_row_word k n p b (get_or t.rows d None) q row (c.pivots d ∙ sym (ap (pivot_at s) e) ∙ r)
-          ∙ ap (cleared k n p b) (c.rest d (omega arith)))
-      | inr ne ↦ ap (row_word n) (row_other t.rows d i q ne) ∙ c.below i (omega arith) r
-    ];
-    rest = λ i l. ap (row_word n) (row_other t.rows d i q (λ e. omega arith)) ∙ c.rest i (omega arith);
-  }
-
   pub extended_from_clearing : (d : ℕ) (t : Elimination) (w : Word) → p < length t.rows → n ≤ d → word n w ≡ b → Clearing k n p b s d t → Extended k n (pivot_at s) (word_at n s) p b (pivot_at (record { rows = set t.rows p (Some w) })) (word_at n (record { rows = set t.rows p (Some w) }))
   extended_from_clearing d t w lp all e c = record {
     pivot_here = ap is_some (row_here t.rows p (Some w) lp);
@@ -254,13 +218,6 @@ module _ (n : ℕ) (s : Elimination) where
               subst (λ (r : BasisRow). word n r.word ≡ word_at n s r.dot) (sym (get_or-set_other rows m i new no_row ne)) (l.words i (omega arith))
         ];
       }
-
-  pub listed_all : (d : ℕ) (b : Basis) → d ≡ n → ListedBelow n s d b.rows b.count → Listed n s b
-  listed_all d b end l = let e = ap (λ m. pivots m (pivot_at s)) end in record {
-    dots = l.dots ∙ e;
-    count = l.count ∙ ap length e;
-    words = λ i h. l.words i h ∙ ap (word_at n s) (sym (get_or-basis_dots b (ap length l.dots ∙ sym l.count) i h));
-  }
 
 abbrev dot : Basis → ℕ → ℕ
 dot b i = get_or (basis_dots b) i 0
