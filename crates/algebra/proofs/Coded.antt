@@ -1,6 +1,6 @@
--- A function at codes: itself inside them, 0 outside; and a test that no code passes.
-use Rattle.std.proofs.Common.{◌≡◌, ℕ, zero, suc, ◌<◌, ◌≤◌, false, ◌&&◌, eqb, ltb, ◌≢◌, None, sym, refl, ◌∙◌, ⊎_elim}
-use Rattle.std.proofs.lemmas.Bool.{lt-ltb, le-ltb, ne_eqb, and_from, and_left, and_right, cond-true, cond-false, cases_lt}
+-- A function at codes: itself inside them, 0 outside; and the first code that passes a test.
+use Rattle.std.proofs.Common.{◌≡◌, ℕ, zero, suc, ◌+◌, ◌<◌, ◌≤◌, true, false, ◌&&◌, eqb, ltb, ◌≢◌, Some, None, Option, sym, refl, ◌∙◌, ⊎_elim, add-one, arith}
+use Rattle.std.proofs.lemmas.Bool.{lt-ltb, le-ltb, eq-eqb, ne_eqb, and_from, and_left, and_right, cond-true, cond-false, cases_lt, cases_eq}
 use Rattle.algebra.specs.Codes.{at_code, at_codes, first_code}
 
 module _ (n : ℕ) (f : ℕ → ℕ) where
@@ -41,7 +41,22 @@ at_codes_cong n f f' same a b =
     (λ h. at_codes_outside_left n f a b h ∙ sym (at_codes_outside_left n f' a b h))
     (cases_lt a n)
 
--- the first code at which f is v, where it is so at none
-pub first_code_none : (f : ℕ → ℕ) (v n : ℕ) → ((b : ℕ) → f b ≢ v) → first_code n (λ b. eqb (f b) v) ≡ None
-first_code_none f v zero ne = refl
-first_code_none f v (suc n) ne = let fails : eqb (f n) v ≡ false = ne_eqb (f n) v (ne n) in rw (first_code_none f v n ne, fails)
+-- a search for the first code at which f is v
+module _ (f : ℕ → ℕ) (v : ℕ) where
+  abbrev first_at : ℕ → Option ℕ
+  first_at n = first_code n (λ b. eqb (f b) v)
+
+  pub first_code_more : (n x : ℕ) → first_at n ≡ None → x ≡ f n → x ≢ v → first_at (n + 1) ≡ None
+  first_code_more n x none e ne = let fails : eqb (f n) v ≡ false = ne_eqb (f n) v (λ (w : f n ≡ v). ne (e ∙ w)) in rw (add-one, none, fails)
+
+  pub first_code_none : (n : ℕ) → ((b : ℕ) → f b ≢ v) → first_at n ≡ None
+  first_code_none zero ne = refl
+  first_code_none (suc n) ne = rw add-one at (first_code_more n (f n) (first_code_none n ne) refl (ne n))
+
+  pub first_code_found : (n b x : ℕ) → b < n → first_at b ≡ None → x ≡ f b → x ≡ v → Some b ≡ first_at n
+  first_code_found zero b x h none e w = absurd (omega arith)
+  first_code_found (suc n) b x h none e w =
+      ⊎_elim
+      (λ (same : b ≡ n). let passes : eqb (f b) v ≡ true = eq-eqb (f b) v (sym e ∙ w) in rw (← same, none, passes))
+      (λ (ne : b ≡ n → ⊥). let below : b < n = omega arith in rw (← first_code_found n b x below none e w))
+      (cases_eq b n)

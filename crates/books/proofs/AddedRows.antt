@@ -5,7 +5,7 @@ use Rattle.algebra.specs.Fields.{Symbols, SumProductLaws}
 use Rattle.algebra.specs.Groups.{Dots}
 use Rattle.books.specs.Adding.{Adds, Exactly, FirstDots, Grown, LastDots}
 use Rattle.codes.specs.GroupCodes.{choose, rows}
-use Rattle.books.specs.Books.{BookOf, row_at}
+use Rattle.books.specs.Books.{BookOf, Chained, row_at}
 use Rattle.books.specs.declared.book.Book.{Book}
 use Rattle.books.specs.declared.book.Placed.{Placed}
 use Rattle.books.specs.declared.book.Row.{Row}
@@ -60,7 +60,7 @@ abbrev Lists : Symbols → Dots → List ℕ → ℕ → Book → Book → Type 
 Lists k g e s b c = Adds k g e (rows g.order k.order s) (Listed g.order k.order s) b c
 
 -- the rows of weight 1, then of weight 2, then of weight 3
-module _ {k : Symbols} (laws : SumProductLaws k) (g : Dots) (least : 1 ≤ g.order) (e : List ℕ) (t : ℕ) (few : t ≤ 3) (room : rows g.order k.order t ≤ 4096) (b : Book) (none : b.count ≡ 0) where
+module _ {k : Symbols} (laws : SumProductLaws k) (g : Dots) (least : 1 ≤ g.order) (e : List ℕ) (t : ℕ) (few : t ≤ 3) (room : rows g.order k.order t ≤ 4096) (b : Book) (none : b.count ≡ 0) (chain : Chained b) where
   book_of : (s : ℕ) (c : Book) → t ≡ s → Lists k g e s b c → BookOf k g e t c
   book_of s c is adds =
       let grown : Grown k g e (rows g.order k.order t) (Listed g.order k.order t) b c = subst (λ x. Lists k g e x b c) (sym is) adds (omega arith) in
@@ -72,6 +72,7 @@ module _ {k : Symbols} (laws : SumProductLaws k) (g : Dots) (least : 1 ≤ g.ord
             let (r, listed, same) = row_word_listed k g.order t few a row in
             let (i, l, at) = grown.all r listed in
             (i, l, at ∙ same);
+        chained = grown.chained chain;
       }
 
   lists_one : (x : Book) → Adds k g e 1 (Exactly unplaced unplaced) b x → Lists k g e 1 b x

@@ -34,6 +34,7 @@ module _ (k : Symbols) (g : Dots) (e : List ℕ) where
     only = λ i h l. absurd (omega arith);
     all = λ r p. absurd (none r p);
     syndromes = λ i h l. absurd (omega arith);
+    chained = λ c. c;
   }
 
   module _ (m l t : ℕ) (P Q R : Row → Type 0) (b c d : Book) (sums : t ≡ m + l) (left : (r : Row) → P r → R r) (right : (r : Row) → Q r → R r) (both : (r : Row) → R r → P r ⊎ Q r) where
@@ -56,6 +57,7 @@ module _ (k : Symbols) (g : Dots) (e : List ℕ) where
             | inl lt ↦ rw (two.kept i lt) (one.syndromes i h lt)
             | inr le ↦ two.syndromes i le l
           ];
+          chained = λ ch. two.chained (one.chained ch);
         }
 
   module _ (p s : Placed) (r t : Row) (same_r : Exactly p s r) (same_t : Exactly p s t) where
@@ -75,4 +77,5 @@ module _ (k : Symbols) (g : Dots) (e : List ℕ) where
         only = λ i h l. subst (λ j. Exactly r.first r.second (row_at c j)) (here i h l) pushed.symbols;
         all = λ s p. (b.count, omega (arith, pushed.count), new ∙ sym (same_row _ _ s r p (refl, refl, refl, refl)));
         syndromes = λ i h l. subst (λ j. Stores g.order (row_at c j).syndrome (syndrome k g e (row_word g.order (row_at c j)))) (here i h l) stored;
+        chained = pushed.chained;
       }

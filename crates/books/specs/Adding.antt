@@ -10,7 +10,7 @@ use Rattle.algebra.specs.Fields.{Symbols}
 use Rattle.algebra.specs.Groups.{Dots}
 use Rattle.words.specs.Stored.{Stores}
 use Rattle.words.specs.Words.{syndrome}
-use Rattle.books.specs.Books.{row_at}
+use Rattle.books.specs.Books.{Chained, row_at}
 use Rattle.books.specs.Rows.{row_word}
 use Rattle.books.specs.declared.book.Book.{Book}
 use Rattle.books.specs.declared.book.Placed.{Placed}
@@ -25,6 +25,7 @@ pub record Pushed (r : Row) (b c : Book) : Type 0 where
   pub kept : (i : ℕ) → i < b.count → row_at c i ≡ row_at b i
   pub symbols : Exactly r.first r.second (row_at c b.count)
   pub syndrome : (row_at c b.count).syndrome ≡ r.syndrome
+  pub chained : Chained b → Chained c
 
 pub record Grown (k : Symbols) (g : Dots) (e : List ℕ) (m : ℕ) (P : Row → Type 0) (b c : Book) : Type 0 where
   pub count : c.count ≡ b.count + m
@@ -32,6 +33,7 @@ pub record Grown (k : Symbols) (g : Dots) (e : List ℕ) (m : ℕ) (P : Row → 
   pub only : (i : ℕ) → b.count ≤ i → i < c.count → P (row_at c i)
   pub all : (r : Row) → P r → (i : ℕ) × (i < c.count) × (row_word g.order (row_at c i) ≡ row_word g.order r)
   pub syndromes : (i : ℕ) → b.count ≤ i → i < c.count → Stores g.order (row_at c i).syndrome (syndrome k g e (row_word g.order (row_at c i)))
+  pub chained : Chained b → Chained c
 
 abbrev pub Adds : Symbols → Dots → List ℕ → ℕ → (Row → Type 0) → Book → Book → Type 0
 Adds k g e m P b c = b.count + m ≤ 4096 → Grown k g e m P b c

@@ -1,7 +1,5 @@
 // The book of a code: the words of weight at most t with symbol 1 at dot 0, each with its syndrome.
-ghost use Rattle.std.specs.Prelude.{ℕ, ◌<◌, ◌≤◌, None, slice_index_or};
-ghost use Rattle.std.proofs.Props.{props};
-ghost use Rattle.books.specs.Rows.{LastBefore, bucket, row_of};
+ghost use Rattle.std.specs.Prelude.{◌≤◌};
 
 mod build;
 mod count;
@@ -35,14 +33,12 @@ pub struct Row {
 }
 
 // The rows below count, and the last row of each bucket: fixed tables, by a rule of the project, with no heap.
-// Not each book is that of a code: it may be half filled, or cut short at 4096 rows. So that it is one is a premise
-// of what its methods promise, and no part of the type.
+// Not each book is that of a code: it may be half filled, cut short at 4096 rows, or written by a caller with rows
+// outside their buckets. So that it is one is a premise of what its methods promise, and no part of the type.
 #[derive(Clone, Copy)]
 pub struct Book {
     pub rows: [Row; 4096],
     pub count: usize,
     pub heads: [Option<u16>; 1024],
     ghost most: { count ≤ 4096 },
-    ghost last: { (h : ℕ) → h < 1024 → LastBefore rows count h (slice_index_or heads h None) } by { Prim.hlevel props },
-    ghost linked: { (i : ℕ) → i < count → LastBefore rows i (bucket (row_of rows i).syndrome) (row_of rows i).earlier } by { Prim.hlevel props },
 }

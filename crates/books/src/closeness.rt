@@ -25,15 +25,17 @@ impl Book {
     fn row_clashes<F: Field, G: Group>(&self, algebra: &GroupAlgebra<F, G>, row: &Row) -> bool
         ensures { let k = F.Field.symbols algebra.now.field in let g = G.Group.dots algebra.now.group in SaysRowClash k g self.now row.now result }
     {
+        if algebra.same(&row.syndrome, &Word::zero()) {
+            return true;
+        }
         let word = row.word(algebra.dots());
-        algebra.same(&row.syndrome, &Word::zero())
-            || (0..algebra.dots()).any(|j| {
-                self.turn_clashes(
-                    algebra,
-                    &algebra.turned(j, &word),
-                    &algebra.turned(j, &row.syndrome),
-                )
-            })
+        (0..algebra.dots()).any(|j| {
+            self.turn_clashes(
+                algebra,
+                &algebra.turned(j, &word),
+                &algebra.turned(j, &row.syndrome),
+            )
+        })
     }
 
     // Whether at some scale the word is not that scale times the row that fits its syndrome.

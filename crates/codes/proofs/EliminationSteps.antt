@@ -1,21 +1,18 @@
 -- The steps of the elimination as the program makes them.
 --     Clearing k n p b s d t     t is s with the words of the pivots below d cleared
---     SpansTurns k g e js s      s is reduced, and the turns of e by the dots js are within s
 --     ListedBelow n s d rows m   the rows begin with the m pivots of s below d
-use Rattle.std.proofs.Common.{◌≡◌, ℕ, zero, suc, ◌+◌, ◌<◌, ◌≤◌, true, false, cond, eqb, ◌≢◌, List, [], ◌∷◌, ◌++◌, map, length, get_or, take, set, replicate, Option, Some, None, is_some, unwrap_or, sym, refl, ap, ◌∙◌, subst, ap₂, inl, inr, zero-add, arith}
-use Rattle.std.proofs.lemmas.List.{get_or-map, get_or_append_left, get_or_push, get_or-set_same, get_or-set_other, get_or-take, length-map, length-set, length-take, length_push, map-append, take_more_set}
-use Rattle.std.proofs.lemmas.List.FromFn.{get_or-range_with_len, length-range_with_len}
-use Rattle.std.specs.List.{range_with_len}
+use Rattle.std.proofs.Common.{◌≡◌, ℕ, zero, suc, ◌+◌, ◌<◌, ◌≤◌, true, false, cond, eqb, ◌≢◌, List, [], ◌∷◌, ◌++◌, map, length, get_or, take, set, replicate, Option, Some, None, is_some, unwrap_or, sym, refl, ap, ◌∙◌, subst, ap₂, inl, inr, arith}
+use Rattle.std.proofs.lemmas.List.{get_or-map, get_or-set_same, get_or-set_other, get_or-take, length-map, length-set, length-take, length_push, map-append, take_more_set}
 use Rattle.std.proofs.lemmas.Bool.{cases_eq, cond-true, cond-false, eq-eqb, ne_eqb}
 use Rattle.algebra.specs.Checks.{FirstWithout}
 use Rattle.algebra.specs.Fields.{Symbols, SumProductLaws, FieldLaws}
-use Rattle.algebra.specs.Groups.{Dots, GroupLaws}
+use Rattle.algebra.specs.Groups.{Dots}
 use Rattle.words.specs.Stored.{Stores, word}
 use Rattle.words.specs.Words.{at, Lawful, nought, less, scaled, turned, Keeps}
 use Rattle.words.specs.declared.word.Word.{Word}
 use Rattle.words.proofs.Linear.{at_nought}
 use Rattle.words.proofs.Stored.{at_word, zero_stores}
-use Rattle.words.proofs.Turning.{turned_keeps, turned_lawful}
+use Rattle.words.proofs.Turning.{turned_lawful}
 use Rattle.codes.specs.Eliminations.{Absorbs, Extended, Listed, Reduced, Spans, Within, cleared, pivot_at, pivots, residual, word_at}
 use Rattle.codes.specs.GroupCodes.{Leads, MessageDots}
 use Rattle.codes.specs.Bases.{BasisOf, basis_dots, no_row, no_word}
@@ -60,21 +57,6 @@ module _ {k : Symbols} (laws : SumProductLaws k) {g : Dots} {e : List ℕ} (s : 
 
   pub residual_kept : get_or s.rows d None ≡ None → v ≡ u → v ≡ residual_below k g.order (pivot_at s) (word_at g.order s) w (d + 1)
   residual_kept none same = same ∙ left ∙ sym (residual_below_skip laws g.order (pivot_at s) (word_at g.order s) w d (ap is_some none))
-
-row_here : (rows : List (Option Word)) (d : ℕ) (q : Option Word) → d < length rows → get_or (set rows d q) d None ≡ q
-row_here rows d q h = get_or-set_same rows d q None h
-
-row_other : (rows : List (Option Word)) (d i : ℕ) (q : Option Word) → i ≢ d → get_or (set rows d q) i None ≡ get_or rows i None
-row_other rows d i q ne = get_or-set_other rows d i q None ne
-
-module _ (k : Symbols) (n p : ℕ) (b : List ℕ) (s : Elimination) where
-  pub extended_from_clearing : (d : ℕ) (t : Elimination) (w : Word) → p < length t.rows → n ≤ d → word n w ≡ b → Clearing k n p b s d t → Extended k n (pivot_at s) (word_at n s) p b (pivot_at (record { rows = set t.rows p (Some w) })) (word_at n (record { rows = set t.rows p (Some w) }))
-  extended_from_clearing d t w lp all e c = record {
-    pivot_here = ap is_some (row_here t.rows p (Some w) lp);
-    pivots_other = λ i h ne. ap is_some (row_other t.rows p i (Some w) ne) ∙ c.pivots i;
-    word_here = ap (row_word n) (row_here t.rows p (Some w) lp) ∙ e;
-    words_other = λ i h q ne. ap (row_word n) (row_other t.rows p i (Some w) ne) ∙ c.below i (omega arith) q;
-  }
 
 -- u less b scaled by the symbol of u at p, where that symbol is a
 pub stores_cleared : (k : Symbols) (n p a : ℕ) (b u share r : Word) → p < n → a ≡ at u.symbols p → Stores n share (scaled k n a (word n b)) → Stores n r (less k n (word n u) (word n share)) → Stores n r (cleared k n p (word n b) (word n u))
@@ -127,47 +109,20 @@ no_pivots zero d = refl
 no_pivots (suc m) zero = refl
 no_pivots (suc m) (suc d) = no_pivots m d
 
-pub record SpansTurns (k : Symbols) (g : Dots) (e js : List ℕ) (s : Elimination) : Type 0 where
-  pub reduced : Reduced k g e (pivot_at s) (word_at g.order s)
-  pub turns : (i : ℕ) → i < length js → Within k g.order s (turned g (get_or js i 0) e)
-
--- the same, where the numbers js are dots
-abbrev pub SpansDots : Symbols → Dots → List ℕ → List ℕ → Elimination → Type 0
-SpansDots k g e js s = ((i : ℕ) → i < length js → get_or js i 0 < g.order) → SpansTurns k g e js s
-
-pub spans_none : (k : Symbols) (g : Dots) (e : List ℕ) → SpansDots k g e [] (record { rows = replicate 64 None })
-spans_none k g e _ = record {
+pub spans_none : (k : Symbols) (g : Dots) (e : List ℕ) → Spans k g e 0 (record { rows = replicate 64 None })
+spans_none k g e = record {
   reduced = reduced_without_pivots k g e _ _ (λ d _. no_pivots 64 d);
-  turns = λ i h. absurd (omega arith);
+  turns = λ j h. absurd (omega arith);
 }
 
-pub spans_more : {k : Symbols} → SumProductLaws k → {g : Dots} → GroupLaws g → (e : List ℕ) → Lawful k g.order e → Keeps k g e e → (js : List ℕ) (j : ℕ) (s t : Elimination) (u : Word) → SpansDots k g e js s → Stores g.order u (turned g j e) → ((d : List ℕ) → Lawful k g.order d → Reduced k g d (pivot_at s) (word_at g.order s) → Keeps k g d (word g.order u) → Absorbs k g d s (word g.order u) t) → SpansDots k g e (js ++ j ∷ []) t
-spans_more {k} laws {g} group e le ke js j s t u before turn absorbs dots =
-    let many = length_push js j in
-    let old = before (λ i h. subst (λ x. x < g.order) (get_or_append_left js (j ∷ []) 0 i h) (dots i (omega arith))) in
-    let here = get_or_push js j 0 (length js) refl in
-    let below : j < g.order = subst (λ x. x < g.order) here (dots (length js) (omega arith)) in
-    let absorbed = subst (λ w. Absorbs k g e s w t) turn.value (absorbs e le old.reduced (subst (Keeps k g e) (sym turn.value) (turned_keeps laws group e j e below ke))) in
-    record {
-      reduced = absorbed.reduced;
-      turns = λ i h. elim (cases_eq i (length js)) [
-        | inl same ↦ subst (λ x. Within k g.order t (turned g x e)) (sym (ap (λ x. get_or (js ++ j ∷ []) x 0) same ∙ here)) absorbed.absorbed
-        | inr ne ↦
-            let l : i < length js = omega arith in
-            subst (λ x. Within k g.order t (turned g x e)) (sym (get_or_append_left js (j ∷ []) 0 i l))
-            (absorbed.still (turned g (get_or js i 0) e) (turned_lawful laws g (get_or js i 0) e le) (old.turns i l))
-      ];
-    }
-
-pub spans_all : (k : Symbols) (g : Dots) (e : List ℕ) (s : Elimination) → SpansDots k g e (range_with_len 0 g.order) s → Spans k g e g.order s
-spans_all k g e s spans =
-    let at_dot : (i : ℕ) → i < g.order → get_or (range_with_len 0 g.order) i 0 ≡ i = λ i h. get_or-range_with_len 0 g.order i 0 h ∙ zero-add i in
-    let many = length-range_with_len 0 g.order in
-    let all = spans (λ i h. let l : i < g.order = omega arith in subst (λ x. x < g.order) (sym (at_dot i l)) l) in
-    record {
-      reduced = all.reduced;
-      turns = λ j h. subst (λ x. Within k g.order s (turned g x e)) (at_dot j h) (all.turns j (omega arith));
-    }
+pub spans_more : {k : Symbols} → SumProductLaws k → (g : Dots) (e : List ℕ) → Lawful k g.order e → (j : ℕ) (s t : Elimination) → Spans k g e j s → Absorbs k g e s (turned g j e) t → Spans k g e (j + 1) t
+spans_more {k} laws g e le j s t spans absorbs = record {
+  reduced = absorbs.reduced;
+  turns = λ i h. elim (cases_eq i j) [
+    | inl same ↦ subst (λ x. Within k g.order t (turned g x e)) (sym same) absorbs.absorbed
+    | inr ne ↦ absorbs.still (turned g i e) (turned_lawful laws g i e le) (spans.turns i (omega arith))
+  ];
+}
 
 pub record ListedBelow (n : ℕ) (s : Elimination) (d : ℕ) (rows : List BasisRow) (m : ℕ) : Type 0 where
   pub few : m ≤ d

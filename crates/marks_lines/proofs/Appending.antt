@@ -1,7 +1,7 @@
 -- Writing to a buffer one part after another.
-use Rattle.std.proofs.Common.{◌≡◌, ℕ, zero, suc, ◌+◌, ◌/◌, ◌%◌, ◌^◌, ◌<◌, ◌≤◌, List, [], ◌∷◌, ◌++◌, length, take, decimal, sym, refl, ap, ◌∙◌, subst, mod-eq_of_lt, arith, length-take}
+use Rattle.std.proofs.Common.{◌≡◌, ℕ, zero, suc, ◌+◌, ◌-◌, ◌/◌, ◌%◌, ◌^◌, ◌<◌, ◌≤◌, List, [], ◌∷◌, ◌++◌, length, take, drop, set, replicate, decimal, sym, refl, ap, ◌∙◌, subst, mod-eq_of_lt, arith, length-take}
 use Rattle.std.proofs.lemmas.Fmt.{decimal_digit, decimal_step, length-decimal-le}
-use Rattle.std.proofs.lemmas.List.{append_assoc, length-append, length-map, take_all}
+use Rattle.std.proofs.lemmas.List.{append_assoc, drop-drop, drop-replicate, drop-set-lt, length-append, length-map, take_all}
 use Rattle.marks_lines.specs.Held.{Appends, text}
 use Rattle.marks_lines.specs.Replies.{number, word}
 use Rattle.marks_lines.specs.declared.digits.Digits.{Digits}
@@ -36,3 +36,12 @@ length_number n h = omega (arith, length-decimal-le 20 n (omega arith) (omega ar
 
 pub length_word : (d : Digits) → length (word d) ≤ 65
 length_word d = simp (length-map, length-take) (omega (arith, d.symbols.short))
+
+-- A buffer of N bytes that is 0 past the first len of them.
+module _ (N len : ℕ) (bytes : List ℕ) (zeros : drop len bytes ≡ replicate (N - len) 0) where
+  pub zeros_later : (n : ℕ) → drop (len + n) bytes ≡ replicate (N - (len + n)) 0
+  zeros_later n =
+      sym (drop-drop n len bytes) ∙ ap (λ (zs : List ℕ). drop n zs) zeros ∙ drop-replicate n (N - len) 0 ∙ ap (λ k. replicate k 0) (omega arith)
+
+  pub zeros_set : (byte : ℕ) → drop (len + 1) (set bytes len byte) ≡ replicate (N - (len + 1)) 0
+  zeros_set byte = drop-set-lt (len + 1) bytes len byte (omega arith) ∙ zeros_later 1

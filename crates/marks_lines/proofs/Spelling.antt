@@ -1,8 +1,8 @@
 -- Symbols that a loop takes over one by one from bytes.
 --     Taken gives bytes i s     s are the symbols that the first i bytes stand for, each below 10
-use Rattle.std.proofs.Common.{◌≡◌, ℕ, zero, suc, ◌+◌, ◌-◌, ◌<◌, List, [], ◌∷◌, ◌++◌, map, length, get_or, take, Some, None, Option, MatchOption, ap, ◌∙◌, sym, refl, inl, inr, arith, below_more}
+use Rattle.std.proofs.Common.{◌≡◌, ℕ, zero, suc, ◌+◌, ◌-◌, ◌<◌, List, [], ◌∷◌, ◌++◌, map, length, get_or, Some, None, Option, MatchOption, ap, ◌∙◌, sym, refl, inl, inr, arith, below_more}
 use Rattle.std.proofs.ByRecursion.{All-from_get_or, All-get_or}
-use Rattle.std.proofs.lemmas.List.{ext_get_or, get_or-append_right, get_or_append_left, get_or-map, get_or_push, length-append, length-map, length-take, take_all}
+use Rattle.std.proofs.lemmas.List.{ext_get_or, get_or-append_right, get_or_append_left, get_or-map, get_or_push, length-append, length-map, length-take}
 use Rattle.std.proofs.lemmas.Bool.{cases_lt}
 use Rattle.marks_lines.specs.Symbols.{Symbols}
 use Rattle.marks_lines.specs.Held.{held}
@@ -13,7 +13,7 @@ pub record Taken (gives : ℕ → Option ℕ → Type 0) (bytes : List ℕ) (i :
   pub small : (k : ℕ) → get_or s k 0 < 10
   pub same : (k : ℕ) → k < i → gives (get_or bytes k 0) (Some (get_or s k 0))
 
-module _ {gives : ℕ → Option ℕ → Type 0} {bytes s : List ℕ} {i v : ℕ} (w : Taken gives bytes i s) (room : i < 64) (small : v < 10) where
+module _ {gives : ℕ → Option ℕ → Type 0} {bytes s : List ℕ} {i v : ℕ} (w : Taken gives bytes i s) (small : v < 10) where
   last_small : (k : ℕ) → get_or (v ∷ []) k 0 < 10
   last_small zero = small
   last_small (suc k) = omega arith
@@ -24,15 +24,12 @@ module _ {gives : ℕ → Option ℕ → Type 0} {bytes s : List ℕ} {i v : ℕ
     | inr h ↦ rw (get_or-append_right s (v ∷ []) (length s) k 0 refl h) (last_small (k - length s))
   ]
 
-  longer : gives (get_or bytes i 0) (Some v) → Taken gives bytes (i + 1) (s ++ v ∷ [])
-  longer e = record {
+  pub taken_more : gives (get_or bytes i 0) (Some v) → Taken gives bytes (i + 1) (s ++ v ∷ [])
+  taken_more e = record {
     size = omega (arith, length-append s (v ∷ []), w.size);
     small = longer_small;
     same = below_more _ _ (λ k l. rw (get_or_append_left s (v ∷ []) 0 k (omega (arith, w.size))) (w.same k l)) (rw (get_or_push s v 0 i w.size) e);
   }
-
-  pub taken_more : {t : List ℕ} → gives (get_or bytes i 0) (Some v) → t ≡ take 64 (s ++ v ∷ []) → Taken gives bytes (i + 1) t
-  taken_more {t} e new = rw (new, take_all 64 (s ++ v ∷ []) (omega (arith, length-append s (v ∷ []), w.size))) (longer e)
 
 pub lawful : (d : Digits) → Symbols (held d)
 lawful d = (simp length-take (omega (arith, d.symbols.short)), All-from_get_or (λ x. x < 10) (held d) 0 (λ i h. d.small i))

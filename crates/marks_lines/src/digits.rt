@@ -37,11 +37,14 @@ impl Digits {
         if bytes.len() > 64 {
             return None;
         }
-        let mut symbols = Held::new();
-        for byte in bytes {
-            symbols.push(symbol(*byte)?);
+        // An array, since to push each symbol takes more than twice as long.
+        let mut symbols = [0; 64];
+        for (i, byte) in bytes.iter().enumerate() {
+            symbols[i] = symbol(*byte)?;
         }
-        Some(Digits { symbols })
+        Some(Digits {
+            symbols: Held::from_buffer(symbols, bytes.len()),
+        })
     }
 
     pub fn as_slice(&self) -> &[u8]

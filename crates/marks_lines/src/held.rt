@@ -11,7 +11,7 @@ pub struct Held<const N: usize> {
 }
 
 impl<const N: usize> Held<N> {
-    ghost use Rattle.std.specs.Prelude.{◌≡◌, [], ◌∷◌, IsTrue, ◌↔◌};
+    ghost use Rattle.std.specs.Prelude.{◌≡◌, ◌-◌, ◌≤◌, [], ◌∷◌, take, drop, replicate, IsTrue, ◌↔◌};
     ghost use Rattle.marks_lines.specs.Held.{Appends, text};
 
     pub(crate) fn new() -> Self
@@ -23,11 +23,23 @@ impl<const N: usize> Held<N> {
         }
     }
 
-    // What there is no room for is left out.
+    // The first `len` bytes of a buffer that is 0 past them.
+    pub(crate) fn from_buffer(bytes: [u8; N], len: usize) -> Self
+        requires short { len ≤ N }
+        requires zeros { drop len bytes ≡ replicate (N - len) 0 }
+        ensures { text result ≡ take len bytes.entry }
+    {
+        Held { bytes, len }
+    }
+
+    // What there is no room for is left out. Not by `extend`, which is slow for one byte.
     pub(crate) fn push(&mut self, byte: u8)
         ensures { Appends self.old (byte ∷ []) self.new }
     {
-        self.extend(&[byte]);
+        if self.len < N {
+            self.bytes[self.len] = byte;
+            self.len += 1;
+        }
     }
 
     pub(crate) fn extend(&mut self, bytes: &[u8])

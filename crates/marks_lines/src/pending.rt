@@ -18,6 +18,7 @@ impl Pending {
         Pending { start: Held::new() }
     }
 
+    #[tactic(auto, using(crate::proofs::LongLines::start_more))]
     pub fn push(&mut self, byte: u8)
         ensures { (line : List ℕ) → Holds self.old line → Holds self.new (line ++ byte ∷ []) }
     {

@@ -9,7 +9,6 @@ ghost use Rattle.words.specs.Words.{at, less, one, plus, scaled, syndrome, times
 use crate::word::Word;
 use crate::{count, likeness};
 use algebra::{Fault, Field, Group};
-use std::array;
 
 #[derive(Drop)]
 pub struct GroupAlgebra<F, G> {
@@ -61,17 +60,25 @@ impl<F: Field, G: Group> GroupAlgebra<F, G> {
         ensures below { (d : ℕ) → d < (G.Group.dots self.now.group).order → S.post symbol d (at result.symbols d) }
         ensures rest { (d : ℕ) → (G.Group.dots self.now.group).order ≤ d → at result.symbols d ≡ 0 }
     {
-        let n = self.group.order();
-        Word {
-            symbols: array::from_fn(|d| if d < n { symbol(d) } else { 0 }),
+        // As many turns as there are dots: `array::from_fn` would take 64 in a group of few. No group has more than 64
+        // dots, and where the compiler sees that too, it takes several of them at a time.
+        let n = self.group.order().min(64);
+        let mut symbols = [0; 64];
+        for (d, x) in symbols[..n].iter_mut().enumerate() {
+            *x = symbol(d);
         }
+        Word { symbols }
     }
 
     // The word with 1 at dot d and 0 elsewhere.
     pub fn unit(&self, d: usize) -> Word
         ensures { let n = (G.Group.dots self.now.group).order in Stores n result (unit n d) }
     {
-        self.tabulated(|x| u8::from(x == d))
+        let mut symbols = [0; 64];
+        if d < self.group.order() {
+            symbols[d] = 1;
+        }
+        Word { symbols }
     }
 
     // The word with 1 at dot 0 and 0 elsewhere.

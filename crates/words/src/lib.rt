@@ -9,7 +9,7 @@ mod record;
 mod turn_dots;
 mod word;
 
-pub use checks::{check_lengths, check_symbols};
+pub use checks::{check_length, check_lengths, check_symbols};
 pub use count::weight;
 pub use group_algebra::GroupAlgebra;
 pub use likeness::alike;

@@ -1,6 +1,7 @@
 // Filling a book, row by row.
 ghost use Rattle.std.specs.Prelude.{◌≡◌, ◌<◌};
 ghost use Rattle.books.specs.Adding.{Pushed};
+ghost use Rattle.books.specs.Books.{Chained};
 ghost use Rattle.books.specs.Rows.{bucket as bucket_of};
 
 use crate::book::{Book, Placed, Row};
@@ -17,7 +18,8 @@ pub fn bucket(syndrome: &Word) -> usize
 impl Book {
     // The book with no rows.
     pub fn empty() -> Book
-        ensures { result.count ≡ 0 }
+        ensures none { result.count ≡ 0 }
+        ensures chained { Chained result }
     {
         let row = Row {
             first: Placed::NOTHING,

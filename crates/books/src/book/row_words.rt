@@ -6,7 +6,6 @@ ghost use Rattle.books.specs.Rows.{row_symbol, row_word};
 
 use crate::book::{Book, Row};
 use algebra::{Field, Group};
-use std::array;
 use words::{GroupAlgebra, Word};
 
 impl Row {
@@ -29,7 +28,11 @@ impl Row {
     pub fn word(&self, n: usize) -> Word
         ensures { n ≤ 64 → Stores n result (row_word n self.now) }
     {
-        let symbols: [u8; 64] = array::from_fn(|d| if d < n { self.symbol(d) } else { 0 });
+        // No `from_fn`, which would go over all 64 dots: with few dots that takes three times as long.
+        let mut symbols = [0; 64];
+        for (d, symbol) in symbols[..n.min(64)].iter_mut().enumerate() {
+            *symbol = self.symbol(d);
+        }
         Word::of(&symbols)
     }
 }

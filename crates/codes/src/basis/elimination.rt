@@ -19,23 +19,26 @@ impl Elimination {
     pub fn spanning<F: Field, G: Group>(algebra: &GroupAlgebra<F, G>, e: &Word) -> Elimination
         ensures { let k = F.Field.symbols algebra.now.field in let g = G.Group.dots algebra.now.group in let n = g.order in Lawful k n (word n e.now) → Keeps k g (word n e.now) (word n e.now) → Spans k g (word n e.now) n result }
     {
-        (0..algebra.dots()).fold(Elimination { rows: [None; 64] }, |rows, j| {
-            rows.absorb(algebra, &algebra.turned(j, e))
-        })
+        let mut elimination = Elimination { rows: [None; 64] };
+        // A fold would copy the rows, 4,160 bytes, at each turn.
+        for j in 0..algebra.dots() {
+            elimination.absorb(algebra, &algebra.turned(j, e));
+        }
+        elimination
     }
 
     // Makes w a combination of the pivots' words.
-    fn absorb<F: Field, G: Group>(self, algebra: &GroupAlgebra<F, G>, w: &Word) -> Elimination
-        ensures { let k = F.Field.symbols algebra.now.field in let g = G.Group.dots algebra.now.group in let n = g.order in (e : List ℕ) → Lawful k n e → Reduced k g e (pivot_at self) (word_at n self) → Keeps k g e (word n w.now) → Absorbs k g e self (word n w.now) result }
+    fn absorb<F: Field, G: Group>(&mut self, algebra: &GroupAlgebra<F, G>, w: &Word)
+        ensures { let k = F.Field.symbols algebra.now.field in let g = G.Group.dots algebra.now.group in let n = g.order in (e : List ℕ) → Lawful k n e → Reduced k g e (pivot_at self.old) (word_at n self.old) → Keeps k g e (word n w.now) → Absorbs k g e self.old (word n w.now) self.new }
     {
         let rest = self.residual(algebra, w);
         let Some(p) = algebra.first_difference(&rest, &Word::zero()) else {
-            return self;
+            return;
         };
         let Some(a) = algebra.inverse(rest.symbol(p)) else {
-            return self;
+            return;
         };
-        self.extend(algebra, p, &algebra.scaled(a, &rest))
+        self.extend(algebra, p, &algebra.scaled(a, &rest));
     }
 
     // What is left of w when each pivot's word is taken off.
@@ -52,20 +55,16 @@ impl Elimination {
     }
 
     // Makes p a pivot with the word b, and clears the words of the other pivots at p.
-    fn extend<F: Field, G: Group>(
-        mut self,
-        algebra: &GroupAlgebra<F, G>,
-        p: usize,
-        b: &Word,
-    ) -> Elimination
+    fn extend<F: Field, G: Group>(&mut self, algebra: &GroupAlgebra<F, G>, p: usize, b: &Word)
         requires { p < (G.Group.dots algebra.now.group).order }
-        ensures { let k = F.Field.symbols algebra.now.field in let n = (G.Group.dots algebra.now.group).order in Extended k n (pivot_at self) (word_at n self) p (word n b.now) (pivot_at result) (word_at n result) }
+        ensures { let k = F.Field.symbols algebra.now.field in let n = (G.Group.dots algebra.now.group).order in Extended k n (pivot_at self.old) (word_at n self.old) p (word n b.now) (pivot_at self.new) (word_at n self.new) }
     {
-        for row in self.rows.iter_mut() {
-            *row = row.map(|u| cleared(algebra, p, b, &u));
+        for row in self.rows[..algebra.dots()].iter_mut() {
+            if let Some(u) = row {
+                *u = cleared(algebra, p, b, u);
+            }
         }
         self.rows[p] = Some(*b);
-        self
     }
 
     // The pivots, rising, with their words.

@@ -13,13 +13,12 @@ use Rattle.books.proofs.book.Book.row_clashes.Goals as goal
 pub returns-then-same : goal.returns-then-same
 returns-then-same g c = record {
   of_book = λ e t book i li is.
-      rw c.if-same.true (
       row_clashes_at_zero (g.met.F.Field.lawful c.args.algebra.now.field) (g.met.G.Group.lawful c.args.algebra.now.group) e t c.args.self.now book _ i li is
-      (c.if-same.ensures ∙ (zero_stores _ c.zero.result c.zero.ensures).value));
+      (c.if-same.ensures ∙ (zero_stores _ c.zero.result c.zero.ensures).value);
 }
 
-pub returns-else-same : goal.returns-else-same
-returns-else-same g c =
+pub returns : goal.returns
+returns g c =
     let k = g.F.Field.symbols c.args.algebra.now.field in
     let d = g.G.Group.dots c.args.algebra.now.group in
     let n = d.order in
@@ -34,7 +33,7 @@ returns-else-same g c =
       of_book = λ e t book i li is.
           let a = row_word n (row_at b i) in
           let clashes : ℕ → Type 0 = λ j. TurnClash k d e b (turned d j a) (turned d j (syndrome k d e a)) in
-          row_clash_decided field group e t b book row i li is c.any.result c.dots-else-same.result c.dots-else-same.ensures
+          row_clash_decided field group e t b book row i li is c.any.result c.dots-2.result c.dots-2.ensures
           (λ z. c.if-same.ensures (z ∙ sym (zero_stores _ c.zero.result c.zero.ensures).value))
           (any_in_range _ clashes (λ j. clashes j → ⊥) _ _ _ c.any.ensures.ran
           (λ j q call. let (v, (w, y, ws, ys, told), same) : (v : Bool) × Decided j v × (v ≡ true) = search rules in subst (λ x. MatchBool x (clashes j) (clashes j → ⊥)) same (turn_decided field group e t b book row i li is v j own w y stored ws ys (told.of_book e t book)))

@@ -1,19 +1,16 @@
-use Rattle.std.proofs.Common.{◌≡◌, ◌+◌, ◌-◌, ◌*◌, ◌/◌, sym, ap, ap₂, ◌∙◌, arith}
+use Rattle.std.proofs.Common.{◌≡◌, ◌+◌, ◌-◌, ◌*◌, ◌/◌, sym, ap, ◌∙◌, arith}
 use Rattle.codes.specs.GroupCodes.{rows}
 use Rattle.books.proofs.RowCounts.{rows_two, rows_three, pair_choices}
 use Rattle.books.proofs.book.count.row_count.Goals as goal
 
-pub returns-in-2 : goal.returns-in-2
-returns-in-2 c dots symbols _ =
-    let n : c.clamp-dots.result - 1 ≡ c.args.n - 1 = omega arith in
-    let q : c.from-symbols.result - 1 ≡ c.args.q - 1 = omega arith in
-    rw (n, q) (sym (ap (rows c.args.n c.args.q) c.in-2.is ∙ rows_two c.args.n c.args.q))
+pub returns-in-2-clause-inside : goal.returns-in-2-clause-inside
+returns-in-2-clause-inside c _ _ _ _ _ =
+    rw c.from-symbols.ensures (sym (ap (rows c.args.n c.args.q) c.in-2.is ∙ rows_two c.args.n c.args.q))
 
-pub returns-in_default : goal.returns-in_default
-returns-in_default c dots symbols few =
-    let n : c.clamp-dots.result - 1 ≡ c.args.n - 1 = omega arith in
-    let q : c.from-symbols.result - 1 ≡ c.args.q - 1 = omega arith in
+pub returns-in_default-clause-inside : goal.returns-in_default-clause-inside
+returns-in_default-clause-inside c _ _ _ _ few =
     let most : c.args.t ≡ 3 = omega arith in
-    let pairs = ap₂ (λ x y. x * y / 2) n (c.saturating_sub.ensures ∙ ap (λ x. x - 1) n) ∙ pair_choices (c.args.n - 1) in
-    ap₂ (λ x y. 1 + x + y) (ap₂ ◌*◌ n q) (ap₂ (λ x y. x * (y * y)) pairs q)
-    ∙ sym (ap (rows c.args.n c.args.q) most ∙ rows_three c.args.n c.args.q)
+    let n = c.args.n - 1 in
+    let q = c.from-symbols.result - 1 in
+    ap (λ x. 1 + n * q + n * x / 2 * (q * q)) c.saturating_sub.ensures ∙ ap (λ x. 1 + n * q + x * (q * q)) (pair_choices n)
+    ∙ rw c.from-symbols.ensures (sym (ap (rows c.args.n c.args.q) most ∙ rows_three c.args.n c.args.q))

@@ -1,9 +1,9 @@
-use Rattle.std.proofs.Common.{rules}
-use Rattle.words.specs.Words.{unit}
-use Rattle.words.proofs.Stored.{given_stores}
+use Rattle.std.proofs.Common.{refl, arith}
+use Rattle.words.proofs.Stored.{marked_stores, unmarked_stores}
 use Rattle.words.proofs.group_algebra.GroupAlgebra.unit.Goals as goal
 
-pub returns : goal.returns
-unfolding unit
-returns g c =
-    given_stores _ _ _ (λ x l. let given = c.tabulated.ensures.below x l in search rules) c.tabulated.ensures.rest
+pub returns-then-d-order : goal.returns-then-d-order
+returns-then-d-order g c = marked_stores _ _ _ (omega arith) (g.met.G.Group.lawful c.args.self.now.group).most refl
+
+pub returns-else-d-order : goal.returns-else-d-order
+returns-else-d-order g c = unmarked_stores _ _ _ (omega arith) refl

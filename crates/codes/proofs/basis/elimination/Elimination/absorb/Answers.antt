@@ -21,18 +21,18 @@ pub returns : goal.returns
 returns g c e le reduced cw =
     let n = (g.G.Group.dots c.args.algebra.now.group).order in
     let (lp, leads, inverse) = led g (goal.at.returns g c).After-inverse in
-    absorbs_extended (g.met.F.Field.lawful c.args.algebra.now.field) le c.args.self reduced (word n c.args.w.now) cw (word n c.residual-rest.result) (c.residual-rest.ensures e reduced cw.0)
-    c.in-Some.p lp leads c.in-Some-inverse.a (inverse ∙ c.in-Some-inverse.is) (word n c.scaled.result) c.scaled.ensures.value c.extend.result c.extend.ensures
+    absorbs_extended (g.met.F.Field.lawful c.args.algebra.now.field) le c.args.self.now reduced (word n c.args.w.now) cw (word n c.residual-rest.result) (c.residual-rest.ensures e reduced cw.0)
+    c.in-Some.p lp leads c.in-Some-inverse.a (inverse ∙ c.in-Some-inverse.is) (word n c.scaled.result) c.scaled.ensures.value c.extend.new.self c.extend.ensures
 
 pub returns-in_default-inverse : goal.returns-in_default-inverse
 returns-in_default-inverse g c e le reduced cw =
     let n = (g.G.Group.dots c.args.algebra.now.group).order in
     let (lp, leads, inverse) = led g (goal.at.returns-in_default-inverse g c).After-inverse in
-    absurd (lead_has_inverse (g.met.F.Field.lawful c.args.algebra.now.field) le c.args.self reduced (word n c.args.w.now) cw (word n c.residual-rest.result) (c.residual-rest.ensures e reduced cw.0)
+    absurd (lead_has_inverse (g.met.F.Field.lawful c.args.algebra.now.field) le c.args.self.now reduced (word n c.args.w.now) cw (word n c.residual-rest.result) (c.residual-rest.ensures e reduced cw.0)
     c.in-Some.p lp leads (inverse ∙ c.in_default-inverse.is))
 
 pub returns-in_default : goal.returns-in_default
 returns-in_default g c e le reduced cw =
     let n = (g.G.Group.dots c.args.algebra.now.group).order in
-    absorbs_within (g.met.F.Field.lawful c.args.algebra.now.field) le c.args.self reduced (word n c.args.w.now) cw (word n c.residual-rest.result) (c.residual-rest.ensures e reduced cw.0)
+    absorbs_within (g.met.F.Field.lawful c.args.algebra.now.field) le c.args.self.now reduced (word n c.args.w.now) cw (word n c.residual-rest.result) (c.residual-rest.ensures e reduced cw.0)
     (c.in_default.ensures ∙ (zero_stores n c.zero.result c.zero.ensures).value)
